@@ -1,0 +1,83 @@
+-- What is known where all tests of a table hold, or none. Assumes nothing.
+use mathlib.Core.Path.{_≡_, refl}
+use mathlib.Core.Bool.{Bool, true, false, cond, not, _&&_, _||_}
+use mathlib.Core.List.{List, [], _∷_}
+use Prim.Native.Nat.{ℕ, _<_}
+use lib.Dec.{T, eqb, ltb}
+use borrow.Author.Tests.{ltb-true}
+use Rattle.octets.specs.Tests.{and, all, Row, firstOf}
+
+pub both : (a b : Bool) → (a && b) ≡ true → (a ≡ true) × (b ≡ true)
+both true b e = (refl, e)
+both false b e = (e, cc)
+
+pub neither : (a b : Bool) → (a || b) ≡ false → (a ≡ false) × (b ≡ false)
+neither true b e = (e, cc)
+neither false b e = (refl, e)
+
+-- ---- all hold
+
+abbrev pub All : List Bool → Type 0
+All [] = Unit {0}
+All (b ∷ bs) = (b ≡ true) × All bs
+
+and-true : (b : Bool) (bs : List Bool) → and b bs ≡ true → (b ≡ true) × All bs
+and-true b [] e = (e, tt)
+and-true b (c ∷ bs) e =
+    let r = and-true (b && c) bs e in
+    let p = both b c (r .0) in
+    (p .0, (p .1, r .1))
+
+pub all-true : (bs : List Bool) → all bs ≡ true → All bs
+all-true [] e = tt
+all-true (b ∷ bs) e = and-true b bs e
+
+true-and : (b : Bool) (bs : List Bool) → b ≡ true → All bs → and b bs ≡ true
+true-and b [] e a = e
+true-and b (c ∷ bs) e a = true-and (b && c) bs (rw (e, a .0)) (a .1)
+
+pub true-all : (bs : List Bool) → All bs → all bs ≡ true
+true-all [] a = refl
+true-all (b ∷ bs) a = true-and b bs (a .0) (a .1)
+
+-- ---- none holds
+
+abbrev pub None : List Row → Type 0
+None [] = Unit {0}
+None (r ∷ rs) = (r .when ≡ false) × None rs
+
+-- a test of the table's numbers
+abbrev pub each : (ℕ → Bool) → List Row → Bool
+each f [] = true
+each f (r ∷ rs) = f (r .number) && each f rs
+
+T-both : (a b : Bool) → T (a && b) → T a × T b
+T-both true b t = (tt, t)
+T-both false b t = absurd t
+
+-- no number of the table is 0
+abbrev pub named : List Row → Bool
+named rs = each (λ n. not (eqb n 0)) rs
+
+passed : (b : Bool) (n m : ℕ) → T (not (eqb n 0)) → cond b n m ≡ 0 → (b ≡ false) × (m ≡ 0)
+passed true n m t e = absurd (rw e at t)
+passed false n m t e = (refl, e)
+
+pub none-holds : (rs : List Row) → T (named rs) → firstOf rs ≡ 0 → None rs
+none-holds [] t e = tt
+none-holds (r ∷ rs) t e =
+    let u = T-both (not (eqb (r .number) 0)) (named rs) t in
+    let p = passed (r .when) (r .number) (firstOf rs) (u .0) e in
+    (p .0, none-holds rs (u .1) (p .1))
+
+-- each number of the table is below m, so the first one is
+pub first-below : (m : ℕ) (rs : List Row) → 0 < m → T (each (λ n. ltb n m) rs) → firstOf rs < m
+first-below m [] h t = h
+first-below m (r ∷ rs) h t =
+    let u = T-both (ltb (r .number) m) (each (λ n. ltb n m) rs) t in
+    go (r .when) (first-below m rs h (u .1)) (ltb (r .number) m) refl (u .0)
+  where
+    go : (b : Bool) → firstOf rs < m → (x : Bool) → ltb (r .number) m ≡ x → T x → cond b (r .number) (firstOf rs) < m
+    go false i x e t = i
+    go true i true e t = ltb-true (r .number) m e
+    go true i false e t = absurd t

@@ -1,0 +1,40 @@
+-- The laws of `allZero` and `same`. Assumes nothing.
+use mathlib.Core.Path.{_≡_, refl}
+use mathlib.Core.Bool.{Bool, true, _&&_}
+use mathlib.Core.List.{List, [], _∷_}
+use Prim.Native.Nat.{ℕ, zero, suc}
+use native.Mathlib.Omega.{arith}
+use lib.Bits.{bitOr, or-zero-l, or-add-and, and-le-r}
+use lib.Dec.{eqb}
+use lib.ListN.{length}
+use borrow.Author.Tests.{eqb-true, eq-eqb, ne-eqb}
+use Rattle.octets.specs.Octets.{zeros, allZero, same}
+use Rattle.octets.proofs.TestLaws.{both}
+
+pub zeros-all : (n : ℕ) → allZero (zeros n) ≡ true
+zeros-all zero = refl
+zeros-all (suc n) = zeros-all n
+
+pub all-zeros : (xs : List ℕ) → allZero xs ≡ true → xs ≡ zeros (length xs)
+all-zeros [] e = refl
+all-zeros (x ∷ xs) e =
+    let b = both (eqb x 0) (allZero xs) e in
+    cc (eqb-true x 0 (b .0), all-zeros xs (b .1))
+
+-- a byte joined to those seen is zero exactly if both are
+pub or-zero : (a x : ℕ) (b : Bool) → (eqb (bitOr a x) 0 && b) ≡ (eqb a 0 && (eqb x 0 && b))
+or-zero zero x b = rw (or-zero-l x)
+or-zero (suc a) x b =
+    rw (ne-eqb (suc a) 0 (λ e. omega arith), ne-eqb (bitOr (suc a) x) 0 (λ e. omega (arith, or-add-and (suc a) x, and-le-r (suc a) x)))
+
+pub same-self : (xs : List ℕ) → same xs xs ≡ true
+same-self [] = refl
+same-self (x ∷ xs) = rw (eq-eqb x x refl, same-self xs)
+
+pub same-true : (xs ys : List ℕ) → same xs ys ≡ true → xs ≡ ys
+same-true [] [] e = refl
+same-true [] (y ∷ ys) e = cc
+same-true (x ∷ xs) [] e = cc
+same-true (x ∷ xs) (y ∷ ys) e =
+    let b = both (eqb x y) (same xs ys) e in
+    cc (eqb-true x y (b .0), same-true xs ys (b .1))

@@ -1,0 +1,60 @@
+-- Keys are lists of bytes. They compare byte by byte from byte 0; a proper beginning of a key comes before it. Assumes nothing.
+use Prim.Native.Nat.{ℕ, _+_, _*_}
+use mathlib.Core.Bool.{Bool, true, false, cond, _&&_}
+use mathlib.Core.List.{List, [], _∷_}
+use lib.Dec.{ltb}
+use Rattle.octets.specs.declared.keys.Order.{Order}
+use Rattle.octets.specs.declared.keys.Order.the-variants.{Less, Equal, Greater}
+
+abbrev pub Key : Type 0
+Key = List ℕ
+
+abbrev pub orderN : ℕ → ℕ → Order
+orderN m n = cond (ltb m n) Less (cond (ltb n m) Greater Equal)
+
+-- the first of two orders that is not Equal
+abbrev pub then : Order → Order → Order
+then Less o = Less
+then Equal o = o
+then Greater o = Greater
+
+abbrev pub order : Key → Key → Order
+order [] [] = Equal
+order [] (y ∷ ys) = Less
+order (x ∷ xs) [] = Greater
+order (x ∷ xs) (y ∷ ys) = then (orderN x y) (order xs ys)
+
+-- one of three by an order
+abbrev pub three {ℓ} : {A : Type ℓ} → Order → A → A → A → A
+three Less a b c = a
+three Equal a b c = b
+three Greater a b c = c
+
+abbrev pub isLess : Order → Bool
+isLess o = three o true false false
+
+abbrev pub below : Key → Key → Bool
+below j k = isLess (order j k)
+
+-- j is below the first of the keys
+abbrev pub belowFirst : Key → List Key → Bool
+belowFirst j [] = true
+belowFirst j (k ∷ ks) = below j k
+
+-- each key is below the next
+abbrev pub rising : List Key → Bool
+rising [] = true
+rising (k ∷ ks) = belowFirst k ks && rising ks
+
+-- the keys from the first one not below j on
+abbrev pub from : Key → List Key → List Key
+from j [] = []
+from j (k ∷ ks) = three (order j k) (k ∷ ks) (k ∷ ks) (from j ks)
+
+-- the number whose bytes are xs, the highest first, behind those of n
+abbrev pub bigFrom : ℕ → List ℕ → ℕ
+bigFrom n [] = n
+bigFrom n (x ∷ xs) = bigFrom (n * 256 + x) xs
+
+unfoldable pub big : List ℕ → ℕ
+big xs = bigFrom 0 xs
