@@ -213,3 +213,26 @@ part-drop at from n xs = rw drop-drop
 pub part-rest : (at : ℕ) (xs : List ℕ) → part at (length xs - at) xs ≡ drop at xs
 unfolding part
 part-rest at xs = take-all (length xs - at) (drop at xs) (simp length-drop (omega arith))
+
+pub part-whole : (n : ℕ) (xs : List ℕ) → length xs ≡ n → part 0 n xs ≡ xs
+unfolding part
+part-whole n xs h = take-all n xs (omega arith)
+
+-- the two halves of a part are parts of the whole
+pub part-halves : (at m n : ℕ) (xs : List ℕ) → at + (m + n) ≤ length xs
+    → (part 0 m (part at (m + n) xs) ≡ part at m xs) × (part m n (part at (m + n) xs) ≡ part (at + m) n xs)
+part-halves at m n xs h =
+    let l : length (part at m xs) ≡ m = length-part at m xs (omega arith) in
+    let k : length (part (at + m) n xs) ≡ n = length-part (at + m) n xs (omega arith) in
+    rw (part-two at m n xs) (
+      rw l at (part-seam [] (part at m xs) (part (at + m) n xs)),
+      rw (append-nil, l, k) at (part-seam (part at m xs) (part (at + m) n xs) []),
+    )
+
+-- a part of a beginning
+pub part-take : (from n k : ℕ) (xs : List ℕ) → from + n ≤ k → part from n (take k xs) ≡ part from n xs
+unfolding part
+part-take zero n k xs h = take-take n k xs (omega arith)
+part-take (suc from) n zero xs h = absurd (omega arith)
+part-take (suc from) n (suc k) [] h = refl
+part-take (suc from) n (suc k) (x ∷ xs) h = part-take from n k xs (omega arith)

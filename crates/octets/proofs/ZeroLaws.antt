@@ -1,14 +1,15 @@
--- The laws of `allZero` and `same`. Assumes nothing.
+-- The laws of `allZero`, `same` and `filled`. Assumes nothing.
 use mathlib.Core.Path.{_≡_, refl}
 use mathlib.Core.Bool.{Bool, true, _&&_}
 use mathlib.Core.List.{List, [], _∷_}
-use Prim.Native.Nat.{ℕ, zero, suc}
+use Prim.Native.Nat.{suc, zero, ℕ, _-_, _≤_}
+use native.Mathlib.Nat.{zero-add, sub-zero, zero-sub, suc-sub-suc}
 use native.Mathlib.Omega.{arith}
 use lib.Bits.{bitOr, or-zero-l, or-add-and, and-le-r}
 use lib.Dec.{eqb}
-use lib.ListN.{length}
+use lib.ListN.{length, drop, length-append, length-replicate}
 use borrow.Author.Tests.{eqb-true, eq-eqb, ne-eqb}
-use Rattle.octets.specs.Octets.{zeros, allZero, same}
+use Rattle.octets.specs.Octets.{put, zeros, filled, allZero, same}
 use Rattle.octets.proofs.TestLaws.{both}
 
 pub zeros-all : (n : ℕ) → allZero (zeros n) ≡ true
@@ -38,3 +39,16 @@ same-true (x ∷ xs) [] e = cc
 same-true (x ∷ xs) (y ∷ ys) e =
     let b = both (eqb x y) (same xs ys) e in
     cc (eqb-true x y (b .0), same-true xs ys (b .1))
+
+pub length-filled : (n : ℕ) (xs : List ℕ) → length xs ≤ n → length (filled n xs) ≡ n
+length-filled n xs h = simp (length-append, length-replicate) (omega arith)
+
+drop-zeros : (n k : ℕ) → drop k (zeros n) ≡ zeros (n - k)
+drop-zeros n zero = rw sub-zero
+drop-zeros zero (suc k) = rw zero-sub
+drop-zeros (suc n) (suc k) = rw suc-sub-suc (drop-zeros n k)
+
+-- what is put at the front of zeros has zeros behind it
+pub put-zeros : (n : ℕ) (xs : List ℕ) → put 0 xs (zeros n) ≡ filled n xs
+unfolding put
+put-zeros n xs = rw (zero-add, drop-zeros)

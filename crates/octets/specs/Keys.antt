@@ -3,8 +3,10 @@ use Prim.Native.Nat.{ℕ, _+_, _*_}
 use mathlib.Core.Bool.{Bool, true, false, cond, _&&_}
 use mathlib.Core.List.{List, [], _∷_}
 use lib.Dec.{ltb}
+use Rattle.octets.specs.Octets.{part}
 use Rattle.octets.specs.declared.keys.Order.{Order}
 use Rattle.octets.specs.declared.keys.Order.the-variants.{Less, Equal, Greater}
+use Rattle.octets.specs.declared.keys.Wide.{Wide}
 
 abbrev pub Key : Type 0
 Key = List ℕ
@@ -33,6 +35,9 @@ three Greater a b c = c
 abbrev pub isLess : Order → Bool
 isLess o = three o true false false
 
+abbrev pub isEqual : Order → Bool
+isEqual o = three o false true false
+
 abbrev pub below : Key → Key → Bool
 below j k = isLess (order j k)
 
@@ -58,3 +63,10 @@ bigFrom n (x ∷ xs) = bigFrom (n * 256 + x) xs
 
 unfoldable pub big : List ℕ → ℕ
 big xs = bigFrom 0 xs
+
+-- sixteen bytes as two such numbers, and a length beside them
+unfoldable pub wideOf : List ℕ → ℕ → Wide
+wideOf xs n = record { high = big (part 0 8 xs); low = big (part 8 8 xs); len = n }
+
+abbrev pub orderWide : Wide → Wide → Order
+orderWide a b = then (orderN (a .high) (b .high)) (then (orderN (a .low) (b .low)) (orderN (a .len) (b .len)))

@@ -1,11 +1,12 @@
 // The order of keys: of parts of slices, and of keys that stand in sixteen bytes with their length beside them.
+use crate::runs::copy_at;
 use crate::wide::read_big;
 use crate::wide::read64;
 ghost use mathlib.Core.Path.{_≡_};
 ghost use Prim.Native.Nat.{_+_, _≤_};
-ghost use lib.ListN.{length, drop};
-ghost use Rattle.octets.specs.Octets.{part, allZero};
-ghost use Rattle.octets.specs.Keys.{order, orderN, then};
+ghost use lib.ListN.{length, take, drop};
+ghost use Rattle.octets.specs.Octets.{part, filled, allZero};
+ghost use Rattle.octets.specs.Keys.{order, isLess, isEqual, wideOf, orderWide};
 
 // How one key stands to another.
 pub enum Order {
@@ -38,35 +39,46 @@ pub fn compare(a: &[u8], b: &[u8]) -> Order
     }
 }
 
-fn order_numbers(m: u64, n: u64) -> Order
-    ensures { λ r. ⌜ r ≡ orderN m n ⌝ }
-{
-    if m < n {
-        return Order::Less;
-    }
-    if n < m {
-        return Order::Greater;
-    }
-    Order::Equal
+// A key that stands in sixteen bytes with zeros behind it, as two numbers with the highest byte first, and its length. Such keys
+// stand in the order of their numbers (`order-wide`), so that they are compared with no loop.
+pub struct Wide {
+    pub high: u64,
+    pub low: u64,
+    pub len: u64,
 }
 
-// The order of two keys of lengths m and n that stand in sixteen bytes with zeros behind them (`order-padded`): two numbers
-// and the lengths, and no loop.
-pub fn compare_padded(s: &[u8], at: usize, m: u64, t: &[u8], bt: usize, n: u64) -> Order
-    requires { ⌜ (at + 16 ≤ length (now s)) × (bt + 16 ≤ length (now t)) ⌝ }
-    ensures { λ r. ⌜ r ≡ then (order (part at 16 (now (s .entry))) (part bt 16 (now (t .entry)))) (orderN m n) ⌝ }
+pub fn widen(s: &[u8], at: usize, len: u64) -> Wide
+    requires { ⌜ at + 16 ≤ length (now s) ⌝ }
+    ensures { λ r. ⌜ r ≡ wideOf (part at 16 (now (s .entry))) len ⌝ }
 {
-    let a = read_big(s, at);
-    let b = read_big(t, bt);
-    if a != b {
-        return order_numbers(a, b);
+    Wide {
+        high: read_big(s, at),
+        low: read_big(s, at + 8),
+        len,
     }
-    let c = read_big(s, at + 8);
-    let d = read_big(t, bt + 8);
-    if c != d {
-        return order_numbers(c, d);
-    }
-    order_numbers(m, n)
+}
+
+// No branch: the test stands in the loop over all records.
+pub fn less(a: Wide, b: Wide) -> bool
+    ensures { λ r. ⌜ r ≡ isLess (orderWide a b) ⌝ }
+{
+    (a.high < b.high) | (a.high == b.high) & ((a.low < b.low) | (a.low == b.low) & (a.len < b.len))
+}
+
+pub fn equal(a: Wide, b: Wide) -> bool
+    ensures { λ r. ⌜ r ≡ isEqual (orderWide a b) ⌝ }
+{
+    (a.high == b.high) & (a.low == b.low) & (a.len == b.len)
+}
+
+// The bytes past the key's length cleared.
+pub fn pad(key: [u8; 16], len: usize) -> [u8; 16]
+    requires { ⌜ len ≤ 16 ⌝ }
+    ensures { λ r. ⌜ r ≡ filled 16 (take len key) ⌝ }
+{
+    let mut padded = [0u8; 16];
+    copy_at(&key[..len], &mut padded, 0);
+    padded
 }
 
 // Whether zeros stand behind a key of n bytes in its sixteen.

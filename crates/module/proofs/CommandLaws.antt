@@ -1,0 +1,227 @@
+-- One command on memory that is the image of a space leaves the image of what the command makes of it; formatting leaves the image of
+-- the empty map; what lies past the needed part changes no outcome and is not written. Assumes nothing.
+use mathlib.Core.Path.{_≡_, refl, sym, ap, _∙_}
+use mathlib.Core.Bool.{Bool, true, false, cond}
+use mathlib.Core.List.{List, []}
+use Prim.Native.Nat.{ℕ}
+use native.Mathlib.Nat.{zero-add}
+use native.Mathlib.Omega.{arith}
+use lib.ListN.{length, take, drop, length-append, length-take, length-drop}
+use lib.Seq.{drop-at}
+use lib.Dec.{eqb}
+use borrow.Author.Tests.{eqb-true}
+use Rattle.octets.specs.Octets.{part, put, number}
+use Rattle.octets.specs.Tests.{firstOf}
+use Rattle.octets.proofs.PartLaws.{part-take}
+use Rattle.wire.specs.declared.entries.Command.{Command}
+use Rattle.wire.specs.Entry.{readCommand}
+use Rattle.store.specs.Formats.{needed}
+use Rattle.store.specs.Space.{Space, withPairs, fresh, formatSteps}
+use Rattle.store.specs.Image.{directoryOf, valuesOf, spaceOf, legal}
+use Rattle.store.proofs.SpaceLaws.{Within, fresh-within, formattable}
+use Rattle.store.proofs.ImageLaws.{Image, length-directory, length-values, image-put, image-back, legal-of-image, image-of-legal}
+use Rattle.module.specs.Steps.{steps, statusOf}
+use Rattle.module.specs.Answer.{Answer, answer}
+use Rattle.module.specs.Formatting.{Memory, imageOver, format}
+use Rattle.module.specs.Command.{Post, completionOf, Lent, serve, command}
+use Rattle.module.proofs.AnswerLaws.{answer-status, answer-within, refused}
+
+-- the memory is the image of s, which is within its limits
+pub record Holds (s : Space) (m : Memory) : Type 0 where
+  pub within : Within s
+  pub image : Image s (m .directory) (m .values)
+
+pub holds-legal : (s : Space) (m : Memory) → Holds s m → legal (m .directory) (m .values) ≡ true
+holds-legal s m h = legal-of-image s (m .directory) (m .values) (h .within) (h .image)
+
+pub legal-holds : (m : Memory) → legal (m .directory) (m .values) ≡ true → (s : Space) × Holds s m
+legal-holds m e =
+    let i = image-of-legal (m .directory) (m .values) e in
+    (i .0, record { within = i .1; image = i .2 })
+
+over-holds : (s : Space) (m : Memory) → Within s → Holds s (imageOver s m)
+over-holds s m w = record { within = w; image = image-put s (m .directory) (m .values) w }
+
+-- ---- a read command
+
+entry-key : (e : List ℕ) → length e ≡ 64 → length (readCommand e .key) ≡ 16
+unfolding readCommand part
+entry-key e h = simp (length-append, length-take, length-drop) (omega arith)
+
+module _ (p : Post) (c : Command) (l : Lent) (s : Space) (h : Holds s (l .memory)) where
+  abbrev given : Answer
+  given = answer true s c (l .buffer)
+
+  -- the answer on the map is what is seen of it
+  pub serve-is : serve p c l ≡ record {
+    completion = completionOf p c given;
+    buffer = given .buffer;
+    memory = cond (eqb (given .status) 0) (imageOver (withPairs s (given .pairs)) (l .memory)) (l .memory);
+  }
+  unfolding serve
+  serve-is =
+      rw (
+        holds-legal s (l .memory) h,
+        image-back s (l .memory .directory) (l .memory .values) (h .within) (h .image),
+      )
+
+  -- and the memory afterwards is the image of what it makes of the map
+  pub serve-holds : length (c .key) ≡ 16 → Holds (withPairs s (given .pairs)) (serve p c l .memory)
+  serve-holds sixteen = rw serve-is (go (eqb (given .status) 0) refl)
+    where
+      next : Space
+      next = withPairs s (given .pairs)
+
+      go : (z : Bool) → eqb (given .status) 0 ≡ z → Holds next (cond (eqb (given .status) 0) (imageOver next (l .memory)) (l .memory))
+      go true e = rw e (over-holds next (l .memory) (answer-within true s c (l .buffer) (h .within) sixteen))
+      go false e =
+          let same : given .pairs ≡ s .pairs = ap (λ a. a .pairs) (refused true s c (l .buffer) (rw (answer-status true s c (l .buffer)) at e)) in
+          rw e (rw same h)
+
+-- a refusal leaves store and data buffer as they were, whatever the memory
+pub serve-refused : (p : Post) (c : Command) (l : Lent)
+    → eqb (statusOf (legal (l .memory .directory) (l .memory .values)) (spaceOf (l .memory .directory) (l .memory .values)) c (length (l .buffer))) 0 ≡ false
+    → (serve p c l .buffer ≡ l .buffer) × (serve p c l .memory ≡ l .memory)
+unfolding serve
+serve-refused p c l e =
+    let ok = legal (l .memory .directory) (l .memory .values) in
+    let s = spaceOf (l .memory .directory) (l .memory .values) in
+    let r = refused ok s c (l .buffer) e in
+    (ap (λ a. a .buffer) r, rw (answer-status ok s c (l .buffer), e))
+
+-- ---- a command from its bytes
+
+module _ (p : Post) (e : List ℕ) (l : Lent) where
+  pub command-1 : eqb (length e) 64 ≡ false → command p e l ≡ record { number = 1; after = l }
+  unfolding command
+  command-1 f = rw f
+
+  pub command-2 : eqb (length e) 64 ≡ true → eqb (length (l .completion)) 16 ≡ false → command p e l ≡ record { number = 2; after = l }
+  unfolding command
+  command-2 f g = rw (f, g)
+
+  pub command-0 : eqb (length e) 64 ≡ true → eqb (length (l .completion)) 16 ≡ true
+      → command p e l ≡ record { number = 0; after = serve p (readCommand e) l }
+  unfolding command
+  command-0 f g = rw (f, g)
+
+-- each call on legal memory leaves legal memory
+pub command-legal : (p : Post) (e : List ℕ) (l : Lent) → legal (l .memory .directory) (l .memory .values) ≡ true
+    → legal (command p e l .after .memory .directory) (command p e l .after .memory .values) ≡ true
+command-legal p e l ok = go (eqb (length e) 64) refl (eqb (length (l .completion)) 16) refl
+  where
+    go : (x : Bool) → eqb (length e) 64 ≡ x → (y : Bool) → eqb (length (l .completion)) 16 ≡ y
+        → legal (command p e l .after .memory .directory) (command p e l .after .memory .values) ≡ true
+    go false f y g = rw (command-1 p e l f) ok
+    go true f false g = rw (command-2 p e l f g) ok
+    go true f true g =
+        let j = legal-holds (l .memory) ok in
+        let c = readCommand e in
+        rw (command-0 p e l f g)
+        (holds-legal (withPairs (j .0) (answer true (j .0) c (l .buffer) .pairs)) (serve p c l .memory)
+        (serve-holds p c l (j .0) (j .1) (entry-key e (eqb-true (length e) 64 f))))
+
+-- ---- formatting
+
+module _ (i id n : ℕ) (m : Memory) where
+  pub format-refused : eqb (firstOf (formatSteps i id n (length (m .directory)) (length (m .values)))) 0 ≡ false → format i id n m .after ≡ m
+  unfolding format
+  format-refused e = rw e
+
+  -- formatting gives the legal image of the empty map
+  pub format-holds : format i id n m .number ≡ 0 → Holds (fresh i id n) (format i id n m .after)
+  unfolding format
+  format-holds e =
+      rw e
+      (over-holds (fresh i id n) m
+      (fresh-within i id n (formattable i id n (length (m .directory)) (length (m .values)) e .permits)))
+
+-- ---- bytes past the needed part
+
+-- they are not written
+past-put : (n : ℕ) (xs old : List ℕ) → length xs ≡ n → drop n (put 0 xs old) ≡ drop n old
+unfolding put
+past-put n xs old e = rw (zero-add, e) (drop-at xs (drop n old) n e)
+
+pub record Kept (index size : ℕ) (m n : Memory) : Type 0 where
+  pub directory : drop (needed index) (n .directory) ≡ drop (needed index) (m .directory)
+  pub values : drop size (n .values) ≡ drop size (m .values)
+
+over-kept : (s : Space) (m : Memory) → Within s → Kept (s .index) (s .size) m (imageOver s m)
+over-kept s m w =
+    record {
+      directory = past-put (needed (s .index)) (directoryOf s) (m .directory) (length-directory s w);
+      values = past-put (s .size) (valuesOf s) (m .values) (length-values s w);
+    }
+
+pub serve-kept : (p : Post) (c : Command) (l : Lent) (s : Space) → Holds s (l .memory) → length (c .key) ≡ 16 → Kept (s .index) (s .size) (l .memory) (serve p c l .memory)
+serve-kept p c l s h sixteen = rw (serve-is p c l s h) (go (eqb (given p c l s h .status) 0))
+  where
+    next : Space
+    next = withPairs s (given p c l s h .pairs)
+
+    go : (z : Bool) → Kept (s .index) (s .size) (l .memory) (cond z (imageOver next (l .memory)) (l .memory))
+    go true = over-kept next (l .memory) (answer-within true s c (l .buffer) (h .within) sixteen)
+    go false = record { directory = refl; values = refl }
+
+serve-illegal : (p : Post) (c : Command) (x b : List ℕ) (m : Memory) → legal (m .directory) (m .values) ≡ false
+    → (serve p c (record { completion = x; buffer = b; memory = m }) .completion ≡ completionOf p c (record { status = 0x06; dword0 = 0; buffer = b; pairs = [] }))
+    × (serve p c (record { completion = x; buffer = b; memory = m }) .buffer ≡ b)
+unfolding serve answer statusOf steps
+serve-illegal p c x b m e = (rw e, rw e)
+
+-- they change no outcome: the needed part of a memory is as long as its head says
+pub record Alike (m n : Memory) : Type 0 where
+  pub directory : take (needed (spaceOf (m .directory) (m .values) .index)) (n .directory) ≡ take (needed (spaceOf (m .directory) (m .values) .index)) (m .directory)
+  pub values : take (spaceOf (m .directory) (m .values) .size) (n .values) ≡ take (spaceOf (m .directory) (m .values) .size) (m .values)
+
+pub alike-holds : (s : Space) (m n : Memory) → Holds s m → Alike m n → Holds s n
+alike-holds s m n h a =
+    let b = image-back s (m .directory) (m .values) (h .within) (h .image) in
+    record {
+      within = h .within;
+      image = record {
+        directory = rw b at (a .directory) ∙ h .image .directory;
+        values = rw b at (a .values) ∙ h .image .values;
+      };
+    }
+
+alike-index : (m n : Memory) → Alike m n → spaceOf (n .directory) (n .values) .index ≡ spaceOf (m .directory) (m .values) .index
+unfolding spaceOf
+alike-index m n a =
+    let i = number (part 4 4 (m .directory)) in
+    ap number (sym (part-take 4 4 (needed i) (n .directory) (omega arith)) ∙ ap (part 4 4) (a .directory) ∙ part-take 4 4 (needed i) (m .directory) (omega arith))
+
+alike-size : (m n : Memory) → Alike m n → spaceOf (n .directory) (n .values) .size ≡ spaceOf (m .directory) (m .values) .size
+unfolding spaceOf
+alike-size m n a =
+    let i = number (part 4 4 (m .directory)) in
+    ap number (sym (part-take 8 4 (needed i) (n .directory) (omega arith)) ∙ ap (part 8 4) (a .directory) ∙ part-take 8 4 (needed i) (m .directory) (omega arith))
+
+alike-turned : (m n : Memory) → Alike m n → Alike n m
+alike-turned m n a = record { directory = rw (alike-index m n a) (sym (a .directory)); values = rw (alike-size m n a) (sym (a .values)) }
+
+alike-true : (m n : Memory) → Alike m n → legal (m .directory) (m .values) ≡ true → legal (n .directory) (n .values) ≡ true
+alike-true m n a e = let j = legal-holds m e in holds-legal (j .0) n (alike-holds (j .0) m n (j .1) a)
+
+abbrev pub on : Post → Command → List ℕ → List ℕ → Memory → Lent
+on p c x b m = serve p c (record { completion = x; buffer = b; memory = m })
+
+-- a read command gives the same completion and data whatever lies past the needed part
+pub past-same : (p : Post) (c : Command) (x b : List ℕ) (m n : Memory) → Alike m n
+    → (on p c x b n .completion ≡ on p c x b m .completion) × (on p c x b n .buffer ≡ on p c x b m .buffer)
+past-same p c x b m n a = go (legal (m .directory) (m .values)) refl (legal (n .directory) (n .values)) refl
+  where
+    same : (s : Space) → Holds s m → (on p c x b n .completion ≡ on p c x b m .completion) × (on p c x b n .buffer ≡ on p c x b m .buffer)
+    same s h =
+        let f = serve-is p c (record { completion = x; buffer = b; memory = m }) s h in
+        let g = serve-is p c (record { completion = x; buffer = b; memory = n }) s (alike-holds s m n h a) in (
+          ap (λ (l : Lent). l .completion) g ∙ sym (ap (λ (l : Lent). l .completion) f),
+          ap (λ (l : Lent). l .buffer) g ∙ sym (ap (λ (l : Lent). l .buffer) f),
+        )
+
+    go : (y : Bool) → legal (m .directory) (m .values) ≡ y → (z : Bool) → legal (n .directory) (n .values) ≡ z
+        → (on p c x b n .completion ≡ on p c x b m .completion) × (on p c x b n .buffer ≡ on p c x b m .buffer)
+    go true e z f = let j = legal-holds m e in same (j .0) (j .1)
+    go false e true f = absurd (let y = alike-true n m (alike-turned m n a) f in let o : _≡_ {A = ℕ} 0 1 = cc in omega arith)
+    go false e false f = let u = serve-illegal p c x b m e in let v = serve-illegal p c x b n f in (v .0 ∙ sym (u .0), v .1 ∙ sym (u .1))

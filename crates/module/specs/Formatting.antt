@@ -1,0 +1,29 @@
+-- Formatting: numbers 3 to 6, and the image of the empty map over the needed part of both slices. Assumes nothing.
+use mathlib.Core.Bool.{cond}
+use mathlib.Core.List.{List}
+use Prim.Native.Nat.{ℕ}
+use lib.ListN.{length}
+use lib.Dec.{eqb}
+use Rattle.octets.specs.Octets.{put}
+use Rattle.octets.specs.Tests.{firstOf}
+use Rattle.store.specs.Space.{Space, fresh, formatSteps}
+use Rattle.store.specs.Image.{directoryOf, valuesOf}
+
+-- the two slices of the store
+pub record Memory : Type 0 where
+  pub directory : List ℕ
+  pub values : List ℕ
+
+-- bytes past the needed part stay as they were
+abbrev pub imageOver : Space → Memory → Memory
+imageOver s m = record { directory = put 0 (directoryOf s) (m .directory); values = put 0 (valuesOf s) (m .values) }
+
+pub record Formatted : Type 0 where
+  pub number : ℕ
+  pub after : Memory
+
+-- format index i, namespace id and size n
+unfoldable pub format : ℕ → ℕ → ℕ → Memory → Formatted
+format i id n m =
+    let k = firstOf (formatSteps i id n (length (m .directory)) (length (m .values))) in
+    record { number = k; after = cond (eqb k 0) (imageOver (fresh i id n) m) m }

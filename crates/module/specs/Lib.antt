@@ -1,0 +1,5 @@
+pub mod Steps
+pub mod Answer
+pub mod Formatting
+pub mod Command
+pub mod History

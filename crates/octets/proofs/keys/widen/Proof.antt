@@ -1,0 +1,19 @@
+use native.Mathlib.Omega.{arith}
+use borrow.Author.Needs.{needs}
+use Rattle.octets.specs.Keys.{wideOf}
+use Rattle.octets.proofs.PartLaws.{part-halves}
+use Rattle.octets.proofs.keys.widen.Statement.{statement}
+use Rattle.octets.proofs.keys.widen.Tie as tie
+
+pub widen-spec : {M : Type 1} → statement M
+unfolding wideOf
+widen-spec =
+    tie.close
+    (tie.spec
+    (λ c κs. search needs)
+    (λ c. search needs)
+    (λ c κs. search needs)
+    (λ c.
+    let a = c .before .before .before .args in
+    let h = part-halves (a .at) 8 8 (a .s .now) (omega arith) in
+    cc (h .0, h .1)))

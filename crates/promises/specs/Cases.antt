@@ -1,0 +1,132 @@
+-- The bench cases P1 to P12 of document 01: one table, and one statement about the definitions. Assumes nothing.
+use mathlib.Core.Path.{_≡_, refl}
+use mathlib.Core.Bool.{true}
+use mathlib.Core.List.{List, [], _∷_, map}
+use Prim.Native.Nat.{ℕ}
+use lib.ListN.{length, replicate}
+use Rattle.octets.specs.Octets.{part, put, number, filled}
+use Rattle.octets.specs.Keys.{Key}
+use Rattle.wire.specs.Entry.{readCommand, writeCommand}
+use Rattle.wire.specs.Page.{pageEntry, page}
+use Rattle.store.specs.Space.{Space, fresh, withPairs}
+use Rattle.module.specs.Steps.{steps, statusOf}
+use Rattle.module.specs.Answer.{Answer, answer}
+
+-- a 64-byte entry and the data buffer lent with it
+pub record Call : Type 0 where
+  pub entry : List ℕ
+  pub buffer : List ℕ
+
+pub record Seen : Type 0 where
+  pub status : ℕ
+  pub dword0 : ℕ
+  pub buffer : List ℕ
+
+-- a call after others, and what it must give
+pub record Try : Type 0 where
+  pub before : List Call
+  pub call : Call
+  pub want : Seen
+
+-- each try begins on the empty store of a formatting with id 1
+pub record Case : Type 0 where
+  pub index : ℕ
+  pub size : ℕ
+  pub tries : List Try
+
+abbrev pub answerTo : Space → Call → Answer
+answerTo s x = answer true s (readCommand (x .entry)) (x .buffer)
+
+abbrev pub after : Space → List Call → Space
+after s [] = s
+after s (x ∷ xs) = after (withPairs s (answerTo s x .pairs)) xs
+
+abbrev pub seen : Answer → Seen
+seen a = record { status = a .status; dword0 = a .dword0; buffer = a .buffer }
+
+abbrev pub got : Case → List Seen
+got c = map (λ (t : Try). seen (answerTo (after (fresh (c .index) 1 (c .size)) (t .before)) (t .call))) (c .tries)
+
+abbrev pub wanted : Case → List Seen
+wanted c = map (λ (t : Try). t .want) (c .tries)
+
+-- ---- the words of the table
+
+-- opcode op, options o, key bytes k of which l count, and n in Dword 10
+abbrev pub call : ℕ → ℕ → Key → ℕ → ℕ → List ℕ → Call
+call op o k l n b =
+    record {
+      entry = writeCommand (record { opcode = op; fused = 0; cid = 0; nsid = 1; key = filled 16 k; len = l; options = o; amount = n });
+      buffer = b;
+    }
+
+abbrev pub store : ℕ → Key → List ℕ → Call
+store o k v = call 0x01 o k (length k) (length v) v
+
+abbrev pub retrieve : Key → List ℕ → Call
+retrieve k b = call 0x02 0 k (length k) (length b) b
+
+abbrev pub list : Key → List ℕ → Call
+list k b = call 0x06 0 k (length k) (length b) b
+
+-- Exist with a key length of l
+abbrev pub exist : ℕ → Call
+exist l = call 0x14 0 (replicate 16 0x41) l 0 []
+
+abbrev pub A : Key
+A = 0x41 ∷ []
+
+abbrev pub B : Key
+B = 0x42 ∷ []
+
+abbrev pub AA : Key
+AA = 0x41 ∷ 0x41 ∷ []
+
+abbrev pub AB : Key
+AB = 0x41 ∷ 0x42 ∷ []
+
+-- n bytes that a case must leave unchanged, or write over
+abbrev pub junk : ℕ → List ℕ
+junk n = replicate n 0xff
+
+abbrev pub gives : List Call → Call → ℕ → ℕ → List ℕ → Try
+gives before x st d b = record { before = before; call = x; want = record { status = st; dword0 = d; buffer = b } }
+
+abbrev pub case : ℕ → ℕ → List Try → Case
+case i n tries = record { index = i; size = n; tries = tries }
+
+-- A, AB, B stored
+abbrev pub three : List Call
+three = store 0 B [] ∷ store 0 A (7 ∷ []) ∷ store 0 AB [] ∷ []
+
+abbrev pub table : List Case
+table =
+    -- P1
+    case 3 4096 (gives three (list [] (junk 16)) 0x00 0 (0x03 ∷ 0x00 ∷ 0x00 ∷ 0x00 ∷ 0x01 ∷ 0x00 ∷ 0x41 ∷ 0x00 ∷ 0x02 ∷ 0x00 ∷ 0x41 ∷ 0x42 ∷ 0x01 ∷ 0x00 ∷ 0x42 ∷ 0x00 ∷ []) ∷ [])
+    -- P2
+    ∷ case 3 4096 (gives three (list [] (junk 15)) 0x00 0 (0x02 ∷ 0x00 ∷ 0x00 ∷ 0x00 ∷ 0x01 ∷ 0x00 ∷ 0x41 ∷ 0x00 ∷ 0x02 ∷ 0x00 ∷ 0x41 ∷ 0x42 ∷ junk 3) ∷ [])
+    -- P3
+    ∷ case 3 4096 (gives three (list [] (junk 7)) 0x00 0 (0x00 ∷ 0x00 ∷ 0x00 ∷ 0x00 ∷ junk 3) ∷ [])
+    -- P4
+    ∷ case 3 4096 (gives three (list [] (junk 3)) 0x02 0 (junk 3) ∷ [])
+    -- P5
+    ∷ case 3 4096 (gives three (list AA (junk 16)) 0x00 0 (0x02 ∷ 0x00 ∷ 0x00 ∷ 0x00 ∷ 0x02 ∷ 0x00 ∷ 0x41 ∷ 0x42 ∷ 0x01 ∷ 0x00 ∷ 0x42 ∷ 0x00 ∷ junk 4) ∷ [])
+    -- P6
+    ∷ case 3 4096 (gives [] (list [] (junk 4)) 0x00 0 (0x00 ∷ 0x00 ∷ 0x00 ∷ 0x00 ∷ []) ∷ [])
+    -- P7
+    ∷ case 3 4096 (gives [] (exist 16) 0x87 0 [] ∷ gives [] (exist 17) 0x02 0 [] ∷ [])
+    -- P8
+    ∷ case 0 4096 (gives [] (exist 4) 0x87 0 [] ∷ gives [] (exist 5) 0x86 0 [] ∷ [])
+    -- P9
+    ∷ case 3 10 (gives [] (store 0 A (junk 9)) 0x00 0 (junk 9) ∷ gives [] (store 0 A (junk 10)) 0x81 0 (junk 10) ∷ [])
+    -- P10
+    ∷ case 3 10 (gives (store 0 A (junk 9) ∷ []) (store 0 A (junk 1)) 0x81 0 (junk 1) ∷ [])
+    -- P11
+    ∷ case 3 4096 (gives [] (store 3 A []) 0x87 0 [] ∷ gives (store 0 A [] ∷ []) (store 3 A []) 0x89 0 [] ∷ [])
+    -- P12
+    ∷ case 3 4096 (gives (store 0 A (1 ∷ 2 ∷ 3 ∷ 4 ∷ 5 ∷ []) ∷ []) (retrieve A (junk 3)) 0x00 5 (1 ∷ 2 ∷ 3 ∷ []) ∷ [])
+    ∷ []
+
+pub cases : map got table ≡ map wanted table
+unfolding readCommand writeCommand part put number pageEntry page answer statusOf steps
+cases = refl

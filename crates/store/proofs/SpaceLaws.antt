@@ -1,0 +1,138 @@
+-- The formats' bounds, and the limits of a space as named facts. Assumes nothing.
+use mathlib.Core.Path.{_≡_, refl}
+use mathlib.Core.Bool.{true}
+use mathlib.Core.List.{List, [], _∷_}
+use Prim.Native.Nat.{ℕ, _/_, _^_, _≤_, _<_}
+use native.Mathlib.Nat.{pow-le-pow-right, div-le-self}
+use native.Mathlib.Omega.{arith}
+use lib.ListN.{length}
+use lib.Dec.{leb, ltb, eqb}
+use borrow.Author.Tests.{leb-true, leb-false, ltb-false, eqb-true, eqb-false, le-leb, lt-leb, le-ltb, eq-eqb, ne-eqb}
+use Rattle.octets.specs.declared.keys.Order.{Order}
+use Rattle.octets.specs.declared.keys.Order.the-variants.{Less, Equal, Greater}
+use Rattle.octets.specs.Keys.{Key, order}
+use Rattle.octets.specs.Tests.{firstOf}
+use Rattle.octets.proofs.TestLaws.{all-true, true-all, neither, None, none-holds}
+use Rattle.octets.proofs.OrderLaws.{Rising, rising-true, true-rising}
+use Rattle.store.specs.Formats.{formatOf, needed}
+use Rattle.store.specs.Maps.{Pair, keys, insert, erase, used}
+use Rattle.store.specs.Space.{Space, fresh, permitSteps, formatSteps, pairTests, admitted, limits, within}
+
+pub format-bounds : (i : ℕ) → i ≤ 15 → (formatOf i .keymax ≤ 16) × (formatOf i .valuemax ≤ 4096) × (formatOf i .maxkeys ≤ 1024)
+format-bounds i h =
+    let q : i / 4 ≤ 3 = omega arith in
+    let f : 4 ^ (i / 4) ≤ 4 ^ 3 = pow-le-pow-right {n = 4} (omega arith) {j = 3} q in
+    (omega arith, omega arith, div-le-self 1024 (4 ^ (i / 4)))
+
+abbrev pub Admitted : ℕ → List Pair → Type 0
+Admitted i [] = Unit {0}
+Admitted i (p ∷ m) = (1 ≤ length (p .key)) × (length (p .key) ≤ formatOf i .keymax) × (length (p .value) ≤ formatOf i .valuemax) × Admitted i m
+
+admitted-true : (i : ℕ) (m : List Pair) → admitted i m ≡ true → Admitted i m
+admitted-true i [] e = tt
+admitted-true i (p ∷ m) e =
+    let a = all-true (pairTests i p (admitted i m)) e in
+    (leb-true _ _ (a .0), leb-true _ _ (a .1 .0), leb-true _ _ (a .1 .1 .0), admitted-true i m (a .1 .1 .1 .0))
+
+true-admitted : (i : ℕ) (m : List Pair) → Admitted i m → admitted i m ≡ true
+true-admitted i [] a = refl
+true-admitted i (p ∷ m) a = true-all (pairTests i p (admitted i m)) (le-leb _ _ (a .0), (le-leb _ _ (a .1), (le-leb _ _ (a .2), (true-admitted i m (a .3), tt))))
+
+-- what numbers 3 to 5 let pass
+pub record Permitted (i id n : ℕ) : Type 0 where
+  pub index : i ≤ 15
+  pub id-low : 1 ≤ id
+  pub id-high : id < 0xffff_ffff
+  pub size-low : 1 ≤ n
+  pub size-high : n ≤ 65536
+
+permits-of : (i id n : ℕ) → None (permitSteps i id n) → Permitted i id n
+permits-of i id n r =
+    let ids = neither (eqb id 0) (leb 0xffff_ffff id) (r .1 .0) in
+    let sizes = neither (eqb n 0) (ltb 65536 n) (r .1 .1 .0) in
+    record {
+      index = omega (arith, ltb-false);
+      id-low = omega (arith, eqb-false);
+      id-high = omega (arith, leb-false);
+      size-low = omega (arith, eqb-false);
+      size-high = omega (arith, ltb-false);
+    }
+
+pub permitted : (i id n : ℕ) → firstOf (permitSteps i id n) ≡ 0 → Permitted i id n
+permitted i id n e = permits-of i id n (none-holds (permitSteps i id n) tt e)
+
+-- what numbers 3 to 6 let pass; d and v are the slices' lengths
+pub record Formattable (i id n d v : ℕ) : Type 0 where
+  pub permits : Permitted i id n
+  pub directory : needed i ≤ d
+  pub values : n ≤ v
+
+pub formattable : (i id n d v : ℕ) → firstOf (formatSteps i id n d v) ≡ 0 → Formattable i id n d v
+unfolding formatSteps
+formattable i id n d v e =
+    let r = none-holds (formatSteps i id n d v) tt e in
+    let slices = neither (ltb d (needed i)) (ltb v n) (r .1 .1 .1 .0) in
+    record {
+      permits = permits-of i id n (r .0, (r .1 .0, (r .1 .1 .0, tt)));
+      directory = ltb-false d (needed i) (slices .0);
+      values = ltb-false v n (slices .1);
+    }
+
+pub passes : (i id n : ℕ) → Permitted i id n → firstOf (permitSteps i id n) ≡ 0
+passes i id n p =
+    rw (
+      le-ltb 15 i (p .index),
+      ne-eqb id 0 (λ e. omega arith),
+      lt-leb 0xffff_ffff id (p .id-high),
+      ne-eqb n 0 (λ e. omega arith),
+      le-ltb 65536 n (p .size-high),
+    )
+
+pub record Within (s : Space) : Type 0 where
+  pub permits : Permitted (s .index) (s .id) (s .size)
+  pub rising : Rising (keys (s .pairs))
+  pub admitted : Admitted (s .index) (s .pairs)
+  pub count : length (s .pairs) ≤ formatOf (s .index) .maxkeys
+  pub room : used (s .pairs) ≤ s .size
+
+pub within-true : (s : Space) → within s ≡ true → Within s
+unfolding within
+within-true s e =
+    let a = all-true (limits s) e in
+    record {
+      permits = permitted _ _ _ (eqb-true _ _ (a .0));
+      rising = rising-true (keys (s .pairs)) (a .1 .0);
+      admitted = admitted-true (s .index) (s .pairs) (a .1 .1 .0);
+      count = leb-true _ _ (a .1 .1 .1 .0);
+      room = leb-true _ _ (a .1 .1 .1 .1 .0);
+    }
+
+pub true-within : (s : Space) → Within s → within s ≡ true
+unfolding within
+true-within s w =
+    true-all (limits s) (
+      eq-eqb _ _ (passes _ _ _ (w .permits)),
+      (true-rising (keys (s .pairs)) (w .rising), (true-admitted (s .index) (s .pairs) (w .admitted), (le-leb _ _ (w .count), (le-leb _ _ (w .room), tt)))),
+    )
+
+pub fresh-within : (i id n : ℕ) → Permitted i id n → Within (fresh i id n)
+fresh-within i id n p = record { permits = p; rising = tt; admitted = tt; count = omega arith; room = omega arith }
+
+pub insert-admitted : (i : ℕ) (k : Key) (v : List ℕ) (m : List Pair) → 1 ≤ length k → length k ≤ formatOf i .keymax → length v ≤ formatOf i .valuemax
+    → Admitted i m → Admitted i (insert k v m)
+insert-admitted i k v [] a b c d = (a, b, c, tt)
+insert-admitted i k v (p ∷ m) a b c d = go (order k (p .key)) refl (insert-admitted i k v m a b c (d .3))
+  where
+    go : (o : Order) → order k (p .key) ≡ o → Admitted i (insert k v m) → Admitted i (insert k v (p ∷ m))
+    go Less e r = rw e (a, b, c, d)
+    go Equal e r = rw e (a, b, c, d .3)
+    go Greater e r = rw e (d .0, d .1, d .2, r)
+
+pub erase-admitted : (i : ℕ) (k : Key) (m : List Pair) → Admitted i m → Admitted i (erase k m)
+erase-admitted i k [] d = d
+erase-admitted i k (p ∷ m) d = go (order k (p .key)) refl (erase-admitted i k m (d .3))
+  where
+    go : (o : Order) → order k (p .key) ≡ o → Admitted i (erase k m) → Admitted i (erase k (p ∷ m))
+    go Less e r = rw e d
+    go Equal e r = rw e (d .3)
+    go Greater e r = rw e (d .0, d .1, d .2, r)

@@ -1,0 +1,5 @@
+pub mod Formats
+pub mod Maps
+pub mod Space
+pub mod Image
+pub mod Parts

@@ -1,0 +1,5 @@
+// The bytes that host and module exchange: the entry, the completion, the List page. Each contract is one equation with a
+// definition of `specs/`.
+pub mod completions;
+pub mod entries;
+pub mod pages;
