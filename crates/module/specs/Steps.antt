@@ -1,4 +1,5 @@
--- The module's statuses: document 01's table of steps a to j, row by row and in its order. Assumes nothing.
+-- The module's statuses: document 01's table of steps a to j, row by row and in its order. `View` is what they look at beside the
+-- command. Assumes nothing.
 use mathlib.Core.Bool.{Bool, not, _&&_, _||_}
 use mathlib.Core.List.{List, [], _∷_}
 use Prim.Native.Nat.{ℕ, _+_}
@@ -7,24 +8,15 @@ use lib.Dec.{leb, ltb, eqb}
 use Rattle.octets.specs.Tests.{Row, row, firstOf}
 use Rattle.wire.specs.declared.entries.Command.{Command}
 use Rattle.wire.specs.Entry.{keyOf, isStore, isRetrieve, isList, isDelete, isExist, known, ifPresent, ifAbsent}
+use Rattle.module.specs.declared.steps.View.{View}
+use Rattle.module.specs.declared.steps.Row.{Row as CodeRow}
 use Rattle.store.specs.Formats.{formatOf}
 use Rattle.store.specs.Maps.{present, used}
 use Rattle.store.specs.Space.{Space}
 
--- what the steps look at beside the command
-pub record View : Type 0 where
-  -- the store's memory is legal
-  pub legal : Bool
-  pub index : ℕ
-  pub id : ℕ
-  pub size : ℕ
-  -- keys held, and used room
-  pub count : ℕ
-  pub used : ℕ
-  -- the command's key is held
-  pub held : Bool
-  -- the length of the data buffer
-  pub room : ℕ
+-- a row of the code's table
+abbrev pub rowOf : CodeRow → Row
+rowOf r = row (r .0) (r .1)
 
 unfoldable pub steps : View → Command → List Row
 steps v c =

@@ -1,0 +1,2 @@
+// The device's side: steps a to j on a read command.
+pub mod steps;
