@@ -1,5 +1,6 @@
--- Zeros at the end of a run of bytes, by its number. Assumes nothing.
-use mathlib.Core.Path.{_≡_, refl, sym, ap, _∙_}
+-- Zeros behind a key in its sixteen bytes, also by their number. Assumes nothing.
+use Rattle.octets.proofs.ZeroLaws.{all-zeros}
+use mathlib.Core.Path.{_≡_, refl, sym, ap, _∙_, ap₂}
 use mathlib.Core.Bool.{Bool, true, _&&_, and-assoc, and-comm}
 use mathlib.Core.List.{List, [], _∷_, _++_}
 use Prim.Native.Nat.{ℕ, zero, suc, _+_, _-_, _*_, _/_, _^_, _≤_, _<_}
@@ -7,10 +8,10 @@ use native.Mathlib.Nat.{div-one, zero-div, div-div-eq-div-mul}
 use native.Mathlib.Omega.{arith}
 use lib.Dec.{eqb}
 use lib.Pow.{pow-add}
-use lib.ListN.{length, drop, drop-of-length-le}
-use lib.Seq.{drop-append-le, drop-append-add}
+use lib.ListN.{length, drop, drop-of-length-le, length-drop, length-replicate, getD-replicate, take-append-drop}
+use lib.Seq.{drop-append-le, drop-append-add, take-take}
 use borrow.Author.Tests.{ne-eqb}
-use Rattle.octets.specs.Octets.{part, number, allZero}
+use Rattle.octets.specs.Octets.{part, number, allZero, zeros, filled}
 use Rattle.octets.proofs.PartLaws.{length-part, part-two}
 use Rattle.octets.proofs.NumberLaws.{Bytes, bytes-part}
 
@@ -59,3 +60,20 @@ module _ (xs : List ℕ) (at n : ℕ) (b : Bytes xs) (h : at + 16 ≤ length xs)
   ends-all e =
       let l : length (part at 16 xs) ≤ n = omega (arith, length-part at 16 xs h) in
       rw drop-of-length-le
+
+-- zeros behind the first n of a part's bytes
+pub part-filled : (at n m : ℕ) (xs : List ℕ) → at + m ≤ length xs → n ≤ m → allZero (drop n (part at m xs)) ≡ true → part at m xs ≡ filled m (part at n xs)
+unfolding part
+part-filled at n m xs h l z =
+    let a : length (part at m xs) ≡ m = length-part at m xs h in
+    let b : length (part at n xs) ≡ n = length-part at n xs (omega arith) in
+    let c : length (drop n (part at m xs)) ≡ m - length (part at n xs) = rw length-drop (omega arith) in
+    sym (take-append-drop n (part at m xs)) ∙ ap₂ _++_ (take-take n m (drop at xs) l) (all-zeros _ z ∙ ap zeros c)
+
+bytes-zeros : (xs : List ℕ) (n : ℕ) → Bytes xs → Bytes (xs ++ zeros n)
+bytes-zeros [] n b i h = rw (getD-replicate {A = ℕ} n i 0 0 (rw length-replicate at h)) (omega arith)
+bytes-zeros (x ∷ xs) n b zero h = b 0 (omega arith)
+bytes-zeros (x ∷ xs) n b (suc i) h = bytes-zeros xs n (λ j l. b (suc j) (omega arith)) i (omega arith)
+
+pub bytes-filled : (n : ℕ) (xs : List ℕ) → Bytes xs → Bytes (filled n xs)
+bytes-filled n xs b = bytes-zeros xs (n - length xs) b

@@ -31,7 +31,7 @@ admitted-recorded i (p ∷ m) h a =
     let b = format-bounds i h in
     (omega arith, omega arith, admitted-recorded i m h (a .3))
 
-recorded : (s : Space) → Within s → Recorded (s .pairs)
+pub recorded : (s : Space) → Within s → Recorded (s .pairs)
 recorded s w = admitted-recorded (s .index) (s .pairs) (w .permits .index) (w .admitted)
 
 -- ---- lengths

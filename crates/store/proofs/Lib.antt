@@ -4,3 +4,6 @@ pub mod MapLaws
 pub mod SpaceLaws
 pub mod ImageLaws
 pub mod CountLaws
+pub mod RankLaws
+mod FindLaws
+pub mod WholeLaws

@@ -3,3 +3,4 @@ pub mod Maps
 pub mod Space
 pub mod Image
 pub mod Parts
+pub mod Finds

@@ -1,4 +1,5 @@
 // The store in two lent slices. The inner functions work on a records part, a values part and the head's numbers by value, never
 // on the whole directory.
+pub mod finds;
 pub mod formats;
 pub mod heads;

@@ -1,0 +1,206 @@
+/* The yardstick: the module as a careful hand would write it in C, for the same header and the same memory. It is compared with the
+ * proved module, never shipped. */
+#include "../include/kv.h"
+
+void *memcpy(void *, const void *, size_t);
+void *memmove(void *, const void *, size_t);
+void *memset(void *, int, size_t);
+
+struct head { uint32_t id, index, size, count; };
+struct store { struct head h; uint32_t keymax, valuemax, maxkeys, total, used; uint8_t *records, *values; };
+struct wide { uint64_t high, low; };
+
+static uint32_t load32(const uint8_t *p) { uint32_t x; memcpy(&x, p, 4); return x; }
+static uint64_t load64(const uint8_t *p) { uint64_t x; memcpy(&x, p, 8); return x; }
+static uint16_t load16(const uint8_t *p) { uint16_t x; memcpy(&x, p, 2); return x; }
+static void save32(uint8_t *p, uint32_t x) { memcpy(p, &x, 4); }
+static void save16(uint8_t *p, uint16_t x) { memcpy(p, &x, 2); }
+
+static struct wide wide_at(const uint8_t *p) {
+    struct wide w = { __builtin_bswap64(load64(p)), __builtin_bswap64(load64(p + 8)) };
+    return w;
+}
+
+/* byte by byte, then by length */
+static int below(struct wide a, uint32_t m, struct wide b, uint32_t n) {
+    if (a.high != b.high) return a.high < b.high;
+    if (a.low != b.low) return a.low < b.low;
+    return m < n;
+}
+
+static int padded(struct wide w, uint32_t n) {
+    if (n < 8) return w.low == 0 && (w.high << (8 * n)) == 0;
+    return n == 16 || (w.low << (8 * (n - 8))) == 0;
+}
+
+static int all_zero(const uint8_t *p, size_t n) {
+    uint64_t seen = 0;
+    size_t i = 0;
+    for (; i + 32 <= n; i += 32) seen |= load64(p + i) | load64(p + i + 8) | load64(p + i + 16) | load64(p + i + 24);
+    for (; i < n; i++) seen |= p[i];
+    return seen == 0;
+}
+
+static int permitted(uint32_t index, uint32_t id, uint64_t size) {
+    return index > 15 ? 3 : id == 0 || id == 0xffffffff ? 4 : size == 0 || size > 65536 ? 5 : 0;
+}
+
+static uint32_t max_keys(uint32_t index) { return 1024u >> (2 * (index / 4)); }
+
+/* step a, and the numbers that the other steps look at */
+static int check(struct store *s, uint8_t *directory, size_t dlen, uint8_t *values, size_t vlen) {
+    if (dlen < 64) return 0;
+    struct head h = { load32(directory), load32(directory + 4), load32(directory + 8), load32(directory + 12) };
+    if (permitted(h.index, h.id, h.size)) return 0;
+    uint32_t maxkeys = max_keys(h.index), keymax = 4 * (h.index % 4 + 1), valuemax = 64u << (2 * (h.index / 4));
+    if (h.count > maxkeys || dlen < 64 + 32 * (size_t)maxkeys || vlen < h.size || !all_zero(directory + 16, 48)) return 0;
+    const uint8_t *r = directory + 64;
+    struct wide before = { 0, 0 };
+    uint32_t len = 0, total = 0, used = 0;
+    for (uint32_t j = 0; j < h.count; j++, r += 32) {
+        struct wide w = wide_at(r);
+        uint32_t k = load32(r + 16), v = load32(r + 24);
+        if (k - 1 >= keymax || v > valuemax || load32(r + 20) != total || load32(r + 28) != h.id || !padded(w, k)
+            || !below(before, len, w, k))
+            return 0;
+        before = w;
+        len = k;
+        total += v;
+        used += k + v;
+    }
+    if (used > h.size || !all_zero(r, 32 * (size_t)(maxkeys - h.count)) || !all_zero(values + total, h.size - total)) return 0;
+    *s = (struct store){ h, keymax, valuemax, maxkeys, total, used, directory + 64, values };
+    return 1;
+}
+
+/* the first slot whose key is not below the given one */
+static uint32_t find(const struct store *s, struct wide w, uint32_t len, int *held) {
+    uint32_t low = 0, high = s->h.count;
+    while (low < high) {
+        uint32_t middle = (low + high) / 2;
+        const uint8_t *r = s->records + 32 * middle;
+        if (below(wide_at(r), load32(r + 16), w, len)) low = middle + 1;
+        else high = middle;
+    }
+    *held = 0;
+    if (low < s->h.count) {
+        struct wide x = wide_at(s->records + 32 * low);
+        *held = x.high == w.high && x.low == w.low && load32(s->records + 32 * low + 16) == len;
+    }
+    return low;
+}
+
+static void raise(struct store *s, uint32_t from, uint32_t by) {
+    for (uint32_t j = from; j < s->h.count; j++) save32(s->records + 32 * j + 20, load32(s->records + 32 * j + 20) + by);
+}
+
+static void erase(struct store *s, uint32_t slot) {
+    uint8_t *r = s->records + 32 * slot;
+    uint32_t place = load32(r + 20), v = load32(r + 24);
+    memmove(s->values + place, s->values + place + v, s->total - place - v);
+    memset(s->values + s->total - v, 0, v);
+    memmove(r, r + 32, 32 * (s->h.count - slot - 1));
+    memset(s->records + 32 * (s->h.count - 1), 0, 32);
+    s->h.count--;
+    s->total -= v;
+    raise(s, slot, -v);
+}
+
+static void insert(struct store *s, uint32_t slot, const uint8_t *key, uint32_t len, const uint8_t *value, uint32_t v) {
+    uint8_t *r = s->records + 32 * slot;
+    uint32_t place = slot < s->h.count ? load32(r + 20) : s->total;
+    memmove(s->values + place + v, s->values + place, s->total - place);
+    memcpy(s->values + place, value, v);
+    memmove(r + 32, r, 32 * (s->h.count - slot));
+    memcpy(r, key, 16);
+    save32(r + 16, len);
+    save32(r + 20, place);
+    save32(r + 24, v);
+    save32(r + 28, s->h.id);
+    s->h.count++;
+    s->total += v;
+    raise(s, slot + 1, v);
+}
+
+static void list(const struct store *s, uint32_t slot, uint8_t *data, uint32_t size) {
+    uint32_t n = 0, at = 4;
+    for (; slot < s->h.count; slot++, n++) {
+        const uint8_t *r = s->records + 32 * slot;
+        uint32_t k = load32(r + 16), need = (k + 5) / 4 * 4;
+        if (size - at < need) break;
+        save16(data + at, k);
+        memcpy(data + at + 2, r, k);
+        memset(data + at + 2 + k, 0, need - 2 - k);
+        at += need;
+    }
+    save32(data, n);
+}
+
+uint32_t kv_format(uint32_t index, uint32_t id, uint64_t size, uint8_t *directory, size_t dlen, uint8_t *values, size_t vlen) {
+    int number = permitted(index, id, size);
+    if (number) return number;
+    size_t need = 64 + 32 * (size_t)max_keys(index);
+    if (dlen < need || vlen < size) return 6;
+    memset(directory, 0, need);
+    memset(values, 0, size);
+    save32(directory, id);
+    save32(directory + 4, index);
+    save32(directory + 8, size);
+    return 0;
+}
+
+static int step(const uint8_t *e, uint8_t *data, size_t data_len, uint8_t *directory, size_t dlen, uint8_t *values, size_t vlen,
+                uint32_t *dword0) {
+    struct store s;
+    if (!check(&s, directory, dlen, values, vlen)) return 0x06;
+    uint8_t op = e[0], len = e[44], options = e[45];
+    uint32_t amount = load32(e + 40);
+    int store = op == 1, retrieve = op == 2, lists = op == 6, delete = op == 0x10, exist = op == 0x14;
+    if (!(store | retrieve | lists | delete | exist)) return 0x01;
+    if (e[1] & 3) return 0x02;
+    if (load32(e + 4) != s.h.id) return 0x0b;
+    if (len > 16) return 0x02;
+    if (len > s.keymax || (len == 0 && !lists)) return 0x86;
+    if (store && amount > s.valuemax) return 0x85;
+    if (lists && amount < 4) return 0x02;
+    if ((store | retrieve | lists) && data_len < amount) return 0x04;
+    uint8_t key[16] = { 0 };
+    memcpy(key, e + 8, len < 8 ? len : 8);
+    if (len > 8) memcpy(key + 8, e + 56, len - 8);
+    int held;
+    uint32_t slot = find(&s, wide_at(key), len, &held);
+    if (!held && (retrieve | delete | exist | (store && options & 1))) return 0x87;
+    if (held && store && options & 2) return 0x89;
+    if (store && ((!held && s.h.count >= s.maxkeys) || (uint64_t)s.used + len + amount > s.h.size)) return 0x81;
+    if (store) {
+        if (held) erase(&s, slot);
+        insert(&s, slot, key, len, data, amount);
+        save32(directory + 12, s.h.count);
+    } else if (retrieve) {
+        uint32_t v = load32(s.records + 32 * slot + 24);
+        memcpy(data, s.values + load32(s.records + 32 * slot + 20), v < amount ? v : amount);
+        *dword0 = v;
+    } else if (lists) {
+        list(&s, slot, data, amount);
+    } else if (delete) {
+        erase(&s, slot);
+        save32(directory + 12, s.h.count);
+    }
+    return 0;
+}
+
+uint32_t kv_command(const uint8_t *entry, size_t entry_len, uint8_t *completion, size_t completion_len, uint8_t *data,
+                    size_t data_len, uint8_t *directory, size_t directory_len, uint8_t *values, size_t values_len, uint16_t head,
+                    uint16_t queue, uint16_t phase) {
+    if (entry_len != 64) return 1;
+    if (completion_len != 16) return 2;
+    uint32_t dword0 = 0;
+    int status = step(entry, data, data_len, directory, directory_len, values, values_len, &dword0);
+    save32(completion, dword0);
+    save32(completion + 4, 0);
+    save16(completion + 8, head);
+    save16(completion + 10, queue);
+    save16(completion + 12, load16(entry + 2));
+    save16(completion + 14, (phase & 1) | status << 1);
+    return 0;
+}

@@ -1,0 +1,254 @@
+-- The slot of a key, and what the map does there. Assumes nothing.
+use mathlib.Core.Path.{_≡_, refl, sym, _∙_, ap}
+use mathlib.Core.Bool.{Bool, true, false}
+use mathlib.Core.List.{List, [], _∷_, _++_, append-assoc}
+use Prim.Native.Nat.{ℕ, zero, suc, _+_, _-_, _*_, _≤_, _<_}
+use native.Mathlib.Omega.{arith}
+use lib.Dec.{ltb, leb·suc-suc}
+use lib.ListN.{length, take, drop, getD, length-append, length-take, length-drop}
+use lib.Seq.{drop-append-le, take-at, drop-at, drop-drop, drop-append-seam}
+use borrow.Author.Tests.{lt-ltb, le-ltb}
+use Rattle.octets.specs.declared.keys.Order.{Order}
+use Rattle.octets.specs.declared.keys.Order.the-variants.{Less, Equal, Greater}
+use Rattle.octets.specs.Octets.{part, number, bytes, zeros, filled}
+use Rattle.octets.specs.Keys.{Key, order, isLess, isEqual, from}
+use Rattle.octets.proofs.ZeroLaws.{zeros-all, length-filled}
+use Rattle.octets.proofs.OrderLaws.{Below, Rising, order-eq, order-flip, below-trans, below-greater, greater-below, below-first-trans, true-rising}
+use Rattle.store.specs.declared.heads.Head.{Head}
+use Rattle.store.specs.Formats.{formatOf}
+use Rattle.store.specs.Maps.{Pair, pair, keys, insert, erase, present, valueOf}
+use Rattle.store.specs.Image.{recordOf, recordsOf, recordsPart, pairsIn}
+use Rattle.store.specs.Parts.{spaceWith, slots, Holds, inserted, erased}
+use Rattle.store.specs.Finds.{rank, hasKey, keysIn, KeysFit}
+use Rattle.store.proofs.SpaceLaws.{Admitted, Within, within-true, format-bounds}
+use Rattle.store.proofs.ImageLaws.{Recorded, admitted-recorded, length-record, length-records}
+
+-- ---- the slot of a key among keys
+
+pub rank-le : (k : Key) (ks : List Key) → rank k ks ≤ length ks
+rank-le k [] = omega arith
+rank-le k (j ∷ ks) = go (order k j) refl (rank-le k ks)
+  where
+    go : (o : Order) → order k j ≡ o → rank k ks ≤ length ks → rank k (j ∷ ks) ≤ suc (length ks)
+    go Less e r = rw e (omega arith)
+    go Equal e r = rw e (omega arith)
+    go Greater e r = rw e (omega arith)
+
+pub rank-lt : (k : Key) (ks : List Key) → hasKey k ks ≡ true → rank k ks < length ks
+rank-lt k [] h = absurd (let z : _≡_ {A = ℕ} 0 1 = cc in omega arith)
+rank-lt k (j ∷ ks) h = go (order k j) refl (rank-lt k ks) h
+  where
+    go : (o : Order) → order k j ≡ o → (hasKey k ks ≡ true → rank k ks < length ks) → hasKey k (j ∷ ks) ≡ true → rank k (j ∷ ks) < suc (length ks)
+    go Less e r h = rw e (omega arith)
+    go Equal e r h = rw e (omega arith)
+    go Greater e r h = rw e (omega (arith, r (rw e at h)))
+
+pub from-rank : (k : Key) (ks : List Key) → from k ks ≡ drop (rank k ks) ks
+from-rank k [] = refl
+from-rank k (j ∷ ks) = go (order k j) refl (from-rank k ks)
+  where
+    go : (o : Order) → order k j ≡ o → from k ks ≡ drop (rank k ks) ks → from k (j ∷ ks) ≡ drop (rank k (j ∷ ks)) (j ∷ ks)
+    go Less e r = rw e
+    go Equal e r = rw e
+    go Greater e r = rw e r
+
+first-below : (j : Key) (ks : List Key) (i : ℕ) → Rising (j ∷ ks) → i < length ks → Below j (getD ks i [])
+first-below j [] i r h = absurd (omega arith)
+first-below j (k ∷ ks) zero r h = r .0
+first-below j (k ∷ ks) (suc i) r h = first-below j ks i (below-first-trans j k ks (r .0) (r .1 .0), r .1 .1) (omega arith)
+
+-- among rising keys those below k stand before its slot, and no others
+pub rank-test : (k : Key) (ks : List Key) (i : ℕ) → Rising ks → i < length ks → isLess (order (getD ks i []) k) ≡ ltb i (rank k ks)
+rank-test k [] i r h = absurd (omega arith)
+rank-test k (j ∷ ks) zero r h = go (order k j) refl
+  where
+    go : (o : Order) → order k j ≡ o → isLess (order j k) ≡ ltb 0 (rank k (j ∷ ks))
+    go Less e = rw (e, below-greater k j e)
+    go Equal e = rw (e, order-flip k j, e)
+    go Greater e = rw (e, greater-below k j e) (sym (lt-ltb 0 (suc (rank k ks)) (omega arith)))
+rank-test k (j ∷ ks) (suc i) r h = go (order k j) refl (first-below j ks i r (omega arith)) (rank-test k ks i (r .1) (omega arith))
+  where
+    go : (o : Order) → order k j ≡ o → Below j (getD ks i []) → isLess (order (getD ks i []) k) ≡ ltb i (rank k ks)
+        → isLess (order (getD ks i []) k) ≡ ltb (suc i) (rank k (j ∷ ks))
+    go Less e f t = rw (e, below-greater k (getD ks i []) (below-trans k j (getD ks i []) e f)) (sym (le-ltb (suc i) 0 (omega arith)))
+    go Equal e f t = rw (e, order-eq k j e, below-greater j (getD ks i []) f) (sym (le-ltb (suc i) 0 (omega arith)))
+    go Greater e f t = rw e (t ∙ sym (leb·suc-suc (suc i) (rank k ks)))
+
+pub has-at : (k : Key) (ks : List Key) → rank k ks < length ks → hasKey k ks ≡ isEqual (order (getD ks (rank k ks) []) k)
+has-at k [] h = absurd (omega arith)
+has-at k (j ∷ ks) h = go (order k j) refl (has-at k ks) h
+  where
+    go : (o : Order) → order k j ≡ o → (rank k ks < length ks → hasKey k ks ≡ isEqual (order (getD ks (rank k ks) []) k))
+        → rank k (j ∷ ks) < suc (length ks) → hasKey k (j ∷ ks) ≡ isEqual (order (getD (j ∷ ks) (rank k (j ∷ ks)) []) k)
+    go Less e r h = rw (e, order-flip k j, e)
+    go Equal e r h = rw (e, order-flip k j, e)
+    go Greater e r h = rw e (r (omega (arith, rw e at h)))
+
+pub has-past : (k : Key) (ks : List Key) → length ks ≤ rank k ks → hasKey k ks ≡ false
+has-past k [] h = refl
+has-past k (j ∷ ks) h = go (order k j) refl (has-past k ks) h
+  where
+    go : (o : Order) → order k j ≡ o → (length ks ≤ rank k ks → hasKey k ks ≡ false) → suc (length ks) ≤ rank k (j ∷ ks) → hasKey k (j ∷ ks) ≡ false
+    go Less e r h = rw e
+    go Equal e r h = absurd (omega (arith, rw e at h))
+    go Greater e r h = rw e (r (omega (arith, rw e at h)))
+
+-- ---- the map at the slot of a key
+
+pub length-keys : (m : List Pair) → length (keys m) ≡ length m
+length-keys [] = refl
+length-keys (p ∷ m) = ap suc (length-keys m)
+
+pub rank-held : (k : Key) (m : List Pair) → hasKey k (keys m) ≡ true → rank k (keys m) < length m
+rank-held k m h = omega (arith, rank-lt k (keys m) h, length-keys m)
+
+pub has-present : (k : Key) (m : List Pair) → hasKey k (keys m) ≡ present k m
+has-present k [] = refl
+has-present k (p ∷ m) = go (order k (p .key)) refl (has-present k m)
+  where
+    go : (o : Order) → order k (p .key) ≡ o → hasKey k (keys m) ≡ present k m → hasKey k (keys (p ∷ m)) ≡ present k (p ∷ m)
+    go Less e r = rw e
+    go Equal e r = rw e
+    go Greater e r = rw e r
+
+pub insert-held : (k : Key) (v : List ℕ) (m : List Pair) → hasKey k (keys m) ≡ true
+    → insert k v m ≡ inserted (rank k (keys m)) (pair k v) (erased (rank k (keys m)) m)
+unfolding inserted erased
+insert-held k v [] h = cc
+insert-held k v (p ∷ m) h = go (order k (p .key)) refl (insert-held k v m) h
+  where
+    go : (o : Order) → order k (p .key) ≡ o
+        → (hasKey k (keys m) ≡ true → insert k v m ≡ inserted (rank k (keys m)) (pair k v) (erased (rank k (keys m)) m))
+        → hasKey k (keys (p ∷ m)) ≡ true
+        → insert k v (p ∷ m) ≡ inserted (rank k (keys (p ∷ m))) (pair k v) (erased (rank k (keys (p ∷ m))) (p ∷ m))
+    go Less e r h = let z : _≡_ {A = Bool} false true = rw e at h in cc
+    go Equal e r h = rw e
+    go Greater e r h = rw e (ap (λ (l : List Pair). p ∷ l) (r (rw e at h)))
+
+pub insert-new : (k : Key) (v : List ℕ) (m : List Pair) → hasKey k (keys m) ≡ false → insert k v m ≡ inserted (rank k (keys m)) (pair k v) m
+unfolding inserted
+insert-new k v [] h = refl
+insert-new k v (p ∷ m) h = go (order k (p .key)) refl (insert-new k v m) h
+  where
+    go : (o : Order) → order k (p .key) ≡ o → (hasKey k (keys m) ≡ false → insert k v m ≡ inserted (rank k (keys m)) (pair k v) m)
+        → hasKey k (keys (p ∷ m)) ≡ false → insert k v (p ∷ m) ≡ inserted (rank k (keys (p ∷ m))) (pair k v) (p ∷ m)
+    go Less e r h = rw e
+    go Equal e r h = let z : _≡_ {A = Bool} true false = rw e at h in cc
+    go Greater e r h = rw e (ap (λ (l : List Pair). p ∷ l) (r (rw e at h)))
+
+pub erase-held : (k : Key) (m : List Pair) → hasKey k (keys m) ≡ true → erase k m ≡ erased (rank k (keys m)) m
+unfolding erased
+erase-held k [] h = cc
+erase-held k (p ∷ m) h = go (order k (p .key)) refl (erase-held k m) h
+  where
+    go : (o : Order) → order k (p .key) ≡ o → (hasKey k (keys m) ≡ true → erase k m ≡ erased (rank k (keys m)) m)
+        → hasKey k (keys (p ∷ m)) ≡ true → erase k (p ∷ m) ≡ erased (rank k (keys (p ∷ m))) (p ∷ m)
+    go Less e r h = let z : _≡_ {A = Bool} false true = rw e at h in cc
+    go Equal e r h = rw e
+    go Greater e r h = rw e (ap (λ (l : List Pair). p ∷ l) (r (rw e at h)))
+
+pub value-held : (k : Key) (m : List Pair) (d : Pair) → hasKey k (keys m) ≡ true → valueOf k m ≡ getD m (rank k (keys m)) d .value
+value-held k [] d h = cc
+value-held k (p ∷ m) d h = go (order k (p .key)) refl (value-held k m d) h
+  where
+    go : (o : Order) → order k (p .key) ≡ o → (hasKey k (keys m) ≡ true → valueOf k m ≡ getD m (rank k (keys m)) d .value)
+        → hasKey k (keys (p ∷ m)) ≡ true → valueOf k (p ∷ m) ≡ getD (p ∷ m) (rank k (keys (p ∷ m))) d .value
+    go Less e r h = let z : _≡_ {A = Bool} false true = rw e at h in cc
+    go Equal e r h = rw e
+    go Greater e r h = rw e (r (rw e at h))
+
+-- ---- the keys that stand in records
+
+pub keys-in : (n : ℕ) (s vs : List ℕ) → keys (pairsIn n s vs) ≡ keysIn n s
+keys-in zero s vs = refl
+keys-in (suc n) s vs = ap (λ (ks : List Key). take (number (part 16 4 s)) s ∷ ks) (keys-in n (drop 32 s) (drop (number (part 24 4 s)) vs))
+
+pub length-keys-in : (n : ℕ) (s : List ℕ) → length (keysIn n s) ≡ n
+length-keys-in zero s = refl
+length-keys-in (suc n) s = ap suc (length-keys-in n (drop 32 s))
+
+pub length-pairs-in : (n : ℕ) (s vs : List ℕ) → length (pairsIn n s vs) ≡ n
+length-pairs-in n s vs = sym (length-keys (pairsIn n s vs)) ∙ ap length (keys-in n s vs) ∙ length-keys-in n s
+
+-- the key of slot j
+pub key-at : (n j : ℕ) (s : List ℕ) → j < n → getD (keysIn n s) j [] ≡ part (32 * j) (number (part (32 * j + 16) 4 s)) s
+unfolding part
+key-at zero j s h = absurd (omega arith)
+key-at (suc n) zero s h = refl
+key-at (suc n) (suc j) s h =
+    let a : 32 + 32 * j ≡ 32 * suc j = omega arith in
+    let b : 32 + (32 * j + 16) ≡ 32 * suc j + 16 = omega arith in
+    key-at n j (drop 32 s) (omega arith) ∙ rw (drop-drop (32 * j) 32 s, drop-drop (32 * j + 16) 32 s, a, b)
+
+key-short : (i : ℕ) (m : List Pair) (j : ℕ) → Admitted i m → j < length m → length (getD (keys m) j []) ≤ formatOf i .keymax
+key-short i [] j a h = absurd (omega arith)
+key-short i (p ∷ m) zero a h = a .1
+key-short i (p ∷ m) (suc j) a h = key-short i m j (a .3) (omega arith)
+
+front : (a b c d e x t : List ℕ) → length a ≡ 16 → take 16 (a ++ b ++ c ++ d ++ e ++ x ++ t) ≡ a
+front a b c d e x t h = simp append-assoc (take-at a (b ++ (c ++ (d ++ (e ++ (x ++ t))))) 16 h)
+
+-- the sixteen bytes of slot j
+key-bytes : (id at : ℕ) (m : List Pair) (t : List ℕ) (j : ℕ) → Recorded m → j < length m → part (32 * j) 16 (recordsOf id at m ++ t) ≡ filled 16 (getD (keys m) j [])
+unfolding part recordOf
+key-bytes id at [] t j r h = absurd (omega arith)
+key-bytes id at (p ∷ m) t zero r h =
+    front (filled 16 (p .key)) (bytes 4 (length (p .key))) (bytes 4 at) (bytes 4 (length (p .value))) (bytes 4 id) (recordsOf id (at + length (p .value)) m) t (length-filled 16 (p .key) (r .0))
+key-bytes id at (p ∷ m) t (suc j) r h =
+    let x = recordsOf id (at + length (p .value)) m in
+    let l = length-record id at p (r .0) in
+    let a : 32 * suc j ≡ 32 + 32 * j = omega arith in
+    rw (
+      a,
+      ← drop-drop (32 * j) 32 ((recordOf id at p ++ x) ++ t),
+      drop-append-le 32 (recordOf id at p ++ x) t (rw length-append (omega arith)),
+      drop-at (recordOf id at p) x 32 l,
+    ) (key-bytes id (at + length (p .value)) m t j (r .2) (omega arith))
+
+module _ {h : Head} {s vs : List ℕ} (o : Holds h s vs) where
+  abbrev m : List Pair
+  m = pairsIn (h .count) s vs
+
+  w : Within (spaceWith h m)
+  w = within-true (spaceWith h m) (o .limits)
+
+  r : Recorded m
+  r = admitted-recorded (h .index) m (w .permits .index) (w .admitted)
+
+  count : length m ≡ h .count
+  count = length-pairs-in (h .count) s vs
+
+  lie : length s ≡ 32 * slots h
+  unfolding recordsPart
+  lie = ap length (o .shows .records)
+      ∙ length-filled (32 * slots h) (recordsOf (h .id) 0 m) (omega (arith, length-records (h .id) 0 m r, w .count))
+
+  key : (j : ℕ) → j < h .count → getD (keys m) j [] ≡ part (32 * j) (number (part (32 * j + 16) 4 s)) s
+  key j l = rw (keys-in (h .count) s vs) (key-at (h .count) j s l)
+
+  short : (j : ℕ) → j < h .count → (number (part (32 * j + 16) 4 s) ≤ 16) × (length (getD (keys m) j []) ≡ number (part (32 * j + 16) 4 s))
+  unfolding part
+  short j l =
+      let a = key-short (h .index) m j (w .admitted) (omega (arith, count)) in
+      let b = format-bounds (h .index) (w .permits .index) in
+      let c : 32 * j + 32 ≤ length s = omega (arith, lie, w .count, count) in
+      let d = simp (length-take, length-drop) at (ap length (key j l)) in
+      (omega arith, omega arith)
+
+  sixteen : (j : ℕ) → j < h .count → part (32 * j) 16 s ≡ filled 16 (getD (keys m) j [])
+  unfolding recordsPart
+  sixteen j l =
+      ap (part (32 * j) 16) (o .shows .records)
+      ∙ key-bytes (h .id) 0 m (zeros (32 * slots h - length (recordsOf (h .id) 0 m))) j r (omega (arith, count))
+
+  pub rising-in : Rising (keysIn (h .count) s)
+  rising-in = rw (← keys-in (h .count) s vs) (w .rising)
+
+  pub keys-fit : KeysFit (h .count) s
+  keys-fit = record {
+    lie = omega (arith, lie, w .count, count);
+    few = omega (arith, format-bounds (h .index) (w .permits .index), w .count, count);
+    short = λ j l. short j l .0;
+    padded = λ j l. rw (sixteen j l, ← short j l .1, drop-append-seam) (zeros-all (16 - length (getD (keys m) j [])));
+    rise = true-rising (keysIn (h .count) s) rising-in;
+  }

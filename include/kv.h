@@ -1,0 +1,54 @@
+/* The record module's C interface: the device's side, in libmodule.a (`rt staticlib module`).
+ *
+ * A slice passes as a pointer and a length. The slices lent to one call must not overlap, and none is kept after the call.
+ * The store lives in two lent slices, `directory` and `values`; every call is to be lent the same two, whole, and nothing else
+ * writes them in between. Of `directory` 64 + 32 x max keys bytes are needed, of `values` as many as the size; bytes past the
+ * needed part change no outcome and are never written.
+ *
+ * Each call returns a number. 0 is "done". Any other number is a refusal that has written nothing at all. */
+#ifndef KV_H
+#define KV_H
+
+#include <stddef.h>
+#include <stdint.h>
+
+/* Numbers. */
+enum {
+    KV_DONE = 0,
+    KV_ENTRY_LENGTH = 1,      /* entry not 64 bytes */
+    KV_COMPLETION_LENGTH = 2, /* completion not 16 bytes */
+    KV_FORMAT_INDEX = 3,      /* format index above 15 */
+    KV_NAMESPACE_ID = 4,      /* namespace id 0 or FFFFFFFFh */
+    KV_SIZE = 5,              /* size outside 1 to 65,536 */
+    KV_SLICE_LENGTH = 6       /* directory below 64 + 32 x max keys, or value slice below size */
+};
+
+/* Statuses, carried by the completion of a call that returned 0. All but KV_SUCCESS leave store and data buffer unchanged. */
+enum {
+    KV_SUCCESS = 0x00,
+    KV_INVALID_OPCODE = 0x01,
+    KV_INVALID_FIELD = 0x02,
+    KV_DATA_TRANSFER = 0x04,  /* data buffer shorter than Dword 10 */
+    KV_INTERNAL = 0x06,       /* store memory not legal */
+    KV_INVALID_NAMESPACE = 0x0b,
+    KV_CAPACITY = 0x81,
+    KV_VALUE_SIZE = 0x85,
+    KV_KEY_SIZE = 0x86,
+    KV_KEY_ABSENT = 0x87,
+    KV_KEY_EXISTS = 0x89
+};
+
+/* Opcodes. */
+enum { KV_STORE = 0x01, KV_RETRIEVE = 0x02, KV_LIST = 0x06, KV_DELETE = 0x10, KV_EXIST = 0x14 };
+
+/* Formats the two slices: format `index` (0 to 15), namespace `id`, `size` bytes of room. Numbers 3, 4, 5, 6, tried in that order. */
+uint32_t kv_format(uint32_t index, uint32_t id, uint64_t size, uint8_t *directory, size_t directory_len, uint8_t *values,
+                   size_t values_len);
+
+/* One command: reads the 64-byte entry, acts on the store, writes the 16-byte completion. `data` is the command's data buffer:
+ * Store reads its first bytes, Retrieve and List write them. Numbers 1, 2, tried in that order. Of `phase` the lowest bit counts. */
+uint32_t kv_command(const uint8_t *entry, size_t entry_len, uint8_t *completion, size_t completion_len, uint8_t *data,
+                    size_t data_len, uint8_t *directory, size_t directory_len, uint8_t *values, size_t values_len, uint16_t head,
+                    uint16_t queue, uint16_t phase);
+
+#endif

@@ -1,0 +1,136 @@
+/* The module from C: the sample of document 01, its cases P1 to P12, and a store filled to its last byte and its last slot. */
+#include "kv.h"
+
+int printf(const char *, ...);
+void *memcpy(void *, const void *, size_t);
+void *memset(void *, int, size_t);
+int memcmp(const void *, const void *, size_t);
+
+enum { SPARE = 8 };
+
+static uint8_t directory[64 + 32 * 1024 + SPARE], values[65536 + SPARE], data[4096], completion[16], entry[64];
+static int failed, passed;
+
+static void expect(const char *what, int ok) {
+    passed += ok;
+    failed += !ok;
+    if (!ok) printf("FAILED: %s\n", what);
+}
+
+static void format(uint32_t index, uint32_t size) {
+    memset(directory, 0x5a, sizeof directory);
+    memset(values, 0x5a, sizeof values);
+    expect("format", kv_format(index, 1, size, directory, sizeof directory, values, sizeof values) == 0);
+}
+
+/* one command with `len` key bytes, `amount` in Dword 10 and a data buffer of `room` bytes; its status */
+static int command(int opcode, int options, const void *key, int len, uint32_t amount, size_t room) {
+    int n = len < 16 ? len : 16;
+    uint8_t k[16];
+    memset(k, 0xee, sizeof k);
+    memcpy(k, key, n);
+    memset(entry, 0xee, sizeof entry);
+    entry[0] = opcode;
+    entry[1] = 0xfc;
+    entry[2] = 0x34;
+    entry[3] = 0x12;
+    entry[4] = 1;
+    entry[5] = entry[6] = entry[7] = 0;
+    memcpy(entry + 8, k, 8);
+    memcpy(entry + 40, &amount, 4);
+    entry[44] = len;
+    entry[45] = options;
+    memcpy(entry + 56, k + 8, 8);
+    uint32_t number = kv_command(entry, 64, completion, 16, data, room, directory, sizeof directory, values, sizeof values, 7, 1, 1);
+    expect("number", number == 0);
+    int word = completion[14] | completion[15] << 8;
+    expect("phase and type", (word & 1) == 1 && word >> 9 == 0);
+    expect("fields", memcmp(completion + 4, "\0\0\0\0\7\0\1\0\x34\x12", 10) == 0);
+    return word >> 1 & 255;
+}
+
+static uint32_t dword0(void) {
+    uint32_t n;
+    memcpy(&n, completion, 4);
+    return n;
+}
+
+static int store(int options, const char *key, int len, uint32_t amount) { return command(KV_STORE, options, key, len, amount, amount); }
+
+static int list(const char *key, int len, uint32_t size) {
+    memset(data, 0xff, sizeof data);
+    return command(KV_LIST, 0, key, len, size, size);
+}
+
+static void sample(void) {
+    format(3, 4096);
+    memset(entry, 0, sizeof entry);
+    entry[0] = 0x14, entry[2] = 0x34, entry[3] = 0x12, entry[4] = 0x01, entry[8] = 0x41, entry[44] = 0x01;
+    uint32_t number = kv_command(entry, 64, completion, 16, data, 0, directory, sizeof directory, values, sizeof values, 1, 1, 1);
+    expect("sample", number == 0 && memcmp(completion, "\0\0\0\0\0\0\0\0\1\0\1\0\x34\x12\x0f\x01", 16) == 0);
+}
+
+static void cases(void) {
+    format(3, 4096);
+    expect("P6", list("", 0, 4) == 0 && memcmp(data, "\0\0\0\0\xff", 5) == 0);
+    expect("P7", command(KV_EXIST, 0, "0123456789abcdef", 16, 0, 0) == 0x87 && command(KV_EXIST, 0, "0123456789abcdef", 17, 0, 0) == 0x02);
+    expect("stores", store(0, "B", 1, 0) == 0 && store(0, "A", 1, 1) == 0 && store(0, "AB", 2, 0) == 0);
+    expect("P1", list("", 0, 16) == 0 && memcmp(data, "\3\0\0\0\1\0A\0\2\0AB\1\0B\0\xff", 17) == 0);
+    expect("P2", list("", 0, 15) == 0 && memcmp(data, "\2\0\0\0\1\0A\0\2\0AB\xff\xff\xff\xff", 16) == 0);
+    expect("P3", list("", 0, 7) == 0 && memcmp(data, "\0\0\0\0\xff\xff\xff\xff", 8) == 0);
+    expect("P4", list("", 0, 3) == 0x02 && memcmp(data, "\xff\xff\xff\xff", 4) == 0);
+    expect("P5", list("AA", 2, 16) == 0 && memcmp(data, "\2\0\0\0\2\0AB\1\0B\0\xff\xff\xff\xff\xff", 17) == 0);
+    format(0, 4096);
+    expect("P8", command(KV_EXIST, 0, "01234", 4, 0, 0) == 0x87 && command(KV_EXIST, 0, "01234", 5, 0, 0) == 0x86);
+    format(3, 10);
+    expect("P9", store(0, "A", 1, 10) == 0x81 && store(0, "A", 1, 9) == 0);
+    expect("P10", store(0, "A", 1, 1) == 0x81);
+    format(3, 4096);
+    expect("P11", store(3, "A", 1, 0) == 0x87 && store(0, "A", 1, 0) == 0 && store(3, "A", 1, 0) == 0x89);
+    memcpy(data, "\1\2\3\4\5", 5);
+    expect("store 5", store(0, "A", 1, 5) == 0);
+    memset(data, 0xff, sizeof data);
+    expect("P12", command(KV_RETRIEVE, 0, "A", 1, 3, 3) == 0 && dword0() == 5 && memcmp(data, "\1\2\3\xff", 4) == 0);
+}
+
+/* keys of four bytes and values of v bytes until the store is full, then all of it taken out again */
+static void fill(uint32_t index, uint32_t size, uint32_t v, uint32_t want) {
+    format(index, size);
+    uint32_t n = 0;
+    uint8_t key[4];
+    for (;; n++) {
+        uint32_t k = n * 2654435761u;
+        memcpy(key, &k, 4);
+        memset(data, n & 255, v);
+        int status = command(KV_STORE, 2, key, 4, v, v);
+        if (status != 0) {
+            expect("full is 81h", status == 0x81);
+            break;
+        }
+    }
+    expect("filled", n == want);
+    for (uint32_t i = 0; i < n; i++) {
+        uint32_t k = i * 2654435761u;
+        memcpy(key, &k, 4);
+        memset(data, 0xff, sizeof data);
+        expect("held", command(KV_RETRIEVE, 0, key, 4, v, v) == 0 && dword0() == v && (v == 0 || data[v - 1] == (i & 255)));
+        expect("deleted", command(KV_DELETE, 0, key, 4, 0, 0) == 0);
+    }
+    int zero = 1;
+    for (uint32_t i = 0; i < size; i++) zero &= values[i] == 0;
+    for (uint32_t i = 16; i < 64 + 32 * (1024u >> index / 4 * 2); i++) zero &= directory[i] == 0;
+    expect("empty again", zero && directory[12] == 0 && directory[13] == 0);
+}
+
+int main(void) {
+    sample();
+    cases();
+    fill(0, 65536, 60, 1024); /* the last slot and the last byte */
+    fill(3, 65536, 0, 1024);  /* the last slot */
+    fill(15, 1608, 100, 15);  /* room for a sixteenth key, but not for its value */
+    fill(15, 65536, 4092, 16);
+    for (int i = 0; i < SPARE; i++)
+        expect("bytes past the slices' needed part", directory[sizeof directory - 1 - i] == 0x5a && values[sizeof values - 1 - i] == 0x5a);
+    printf("cases from C: %d passed, %d failed\n", passed, failed);
+    return failed != 0;
+}
