@@ -2,9 +2,10 @@
  * proved module, never shipped. */
 #include "../include/kv.h"
 
-void *memcpy(void *, const void *, size_t);
-void *memmove(void *, const void *, size_t);
-void *memset(void *, int, size_t);
+/* the compiler's own, so that a load of four bytes is one instruction */
+#define memcpy __builtin_memcpy
+#define memmove __builtin_memmove
+#define memset __builtin_memset
 
 struct head { uint32_t id, index, size, count; };
 struct store { struct head h; uint32_t keymax, valuemax, maxkeys, total, used; uint8_t *records, *values; };

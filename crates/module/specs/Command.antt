@@ -9,7 +9,7 @@ use Rattle.wire.specs.Entry.{readCommand, notEntry}
 use Rattle.wire.specs.Completion.{writeCompletion, notCompletion}
 use Rattle.store.specs.Space.{withPairs}
 use Rattle.store.specs.Image.{spaceOf, legal}
-use Rattle.module.specs.Answer.{Answer, answer}
+use Rattle.module.specs.Answer.{Answer, dwordAfter, bufferAfter, pairsAfter, answer}
 use Rattle.module.specs.Formatting.{Memory, imageOver}
 
 -- what the caller gives for the completion; of phase only the lowest bit counts
@@ -27,6 +27,21 @@ pub record Lent : Type 0 where
   pub completion : List ℕ
   pub buffer : List ℕ
   pub memory : Memory
+
+-- what a command does that no step refuses: Dword 0, the data buffer, the memory
+pub record Effect : Type 0 where
+  pub dword0 : ℕ
+  pub buffer : List ℕ
+  pub memory : Memory
+
+unfoldable pub performed : Command → List ℕ → Memory → Effect
+performed c b m =
+    let s = spaceOf (m .directory) (m .values) in
+    record {
+      dword0 = dwordAfter c (s .pairs);
+      buffer = bufferAfter c b (s .pairs);
+      memory = imageOver (withPairs s (pairsAfter c b (s .pairs))) m;
+    }
 
 -- a read command: the store's memory is written only where the status is 00h
 unfoldable pub serve : Post → Command → Lent → Lent

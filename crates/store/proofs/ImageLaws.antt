@@ -3,7 +3,7 @@
 use mathlib.Core.Path.{_≡_, refl, sym, _∙_, ap, ap₂}
 use mathlib.Core.Bool.{true}
 use mathlib.Core.List.{List, [], _∷_, _++_, append-assoc}
-use Prim.Native.Nat.{ℕ, _+_, _-_, _*_, _^_, _≤_, _<_}
+use Prim.Native.Nat.{ℕ, zero, suc, _+_, _-_, _*_, _^_, _≤_, _<_}
 use native.Mathlib.Nat.{zero-add}
 use native.Mathlib.Omega.{arith}
 use lib.ListN.{length, take, drop, length-append, length-replicate, take-append-drop}
@@ -106,6 +106,10 @@ pairs-back id at (p ∷ m) t u r =
       pairs-back id (at + length v) m t u (r .2),
       key-back k (bytes 4 (length k) ++ (bytes 4 at ++ (bytes 4 (length v) ++ (bytes 4 id ++ x)))),
     )
+
+pub length-pairs : (n : ℕ) (d v : List ℕ) → length (pairsIn n d v) ≡ n
+length-pairs zero d v = refl
+length-pairs (suc n) d v = ap suc (length-pairs n (drop 32 d) (drop (number (part 24 4 d)) v))
 
 -- whatever stands behind the needed part
 pub space-back : (s : Space) (t u : List ℕ) → Within s → spaceOf (directoryOf s ++ t) (valuesOf s ++ u) ≡ s

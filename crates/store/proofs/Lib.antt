@@ -1,9 +1,14 @@
 -- The laws of `specs/`, for the proofs of this crate and of those above it.
 mod TableLaws
 pub mod MapLaws
+pub mod CountLaws
 pub mod SpaceLaws
 pub mod ImageLaws
-pub mod CountLaws
+pub mod WholeLaws
 pub mod RankLaws
 mod FindLaws
-pub mod WholeLaws
+mod EditLaws
+pub mod SlotLaws
+mod VerbLaws
+pub mod HeldLaws
+pub mod ReplaceLaws

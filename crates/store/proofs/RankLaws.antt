@@ -21,7 +21,7 @@ use Rattle.store.specs.Image.{recordOf, recordsOf, recordsPart, pairsIn}
 use Rattle.store.specs.Parts.{spaceWith, slots, Holds, inserted, erased}
 use Rattle.store.specs.Finds.{rank, hasKey, keysIn, KeysFit}
 use Rattle.store.proofs.SpaceLaws.{Admitted, Within, within-true, format-bounds}
-use Rattle.store.proofs.ImageLaws.{Recorded, admitted-recorded, length-record, length-records}
+use Rattle.store.proofs.ImageLaws.{Recorded, admitted-recorded, length-record, length-records, length-pairs}
 
 -- ---- the slot of a key among keys
 
@@ -167,9 +167,6 @@ pub length-keys-in : (n : ℕ) (s : List ℕ) → length (keysIn n s) ≡ n
 length-keys-in zero s = refl
 length-keys-in (suc n) s = ap suc (length-keys-in n (drop 32 s))
 
-pub length-pairs-in : (n : ℕ) (s vs : List ℕ) → length (pairsIn n s vs) ≡ n
-length-pairs-in n s vs = sym (length-keys (pairsIn n s vs)) ∙ ap length (keys-in n s vs) ∙ length-keys-in n s
-
 -- the key of slot j
 pub key-at : (n j : ℕ) (s : List ℕ) → j < n → getD (keysIn n s) j [] ≡ part (32 * j) (number (part (32 * j + 16) 4 s)) s
 unfolding part
@@ -216,7 +213,7 @@ module _ {h : Head} {s vs : List ℕ} (o : Holds h s vs) where
   r = admitted-recorded (h .index) m (w .permits .index) (w .admitted)
 
   count : length m ≡ h .count
-  count = length-pairs-in (h .count) s vs
+  count = length-pairs (h .count) s vs
 
   lie : length s ≡ 32 * slots h
   unfolding recordsPart

@@ -4,3 +4,4 @@ pub mod Space
 pub mod Image
 pub mod Parts
 pub mod Finds
+pub mod Verbs

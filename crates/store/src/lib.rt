@@ -3,3 +3,5 @@
 pub mod finds;
 pub mod formats;
 pub mod heads;
+pub mod records;
+pub mod verbs;
