@@ -1,4 +1,5 @@
--- The laws of `specs/`, for the crates above; `RowLaws` has the loop of `first_of`.
+-- The laws of `specs/`, for the crates above; `RowLaws` and `ListLaws` have the loops of `first_of` and `write_list`.
 pub mod AnswerLaws
 pub mod CommandLaws
 mod RowLaws
+mod ListLaws

@@ -2,4 +2,5 @@ pub mod Steps
 pub mod Answer
 pub mod Formatting
 pub mod Command
+pub mod Lists
 pub mod History

@@ -1,2 +1,3 @@
 // The device's side: steps a to j on a read command.
+pub mod lists;
 pub mod steps;

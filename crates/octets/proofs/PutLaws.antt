@@ -4,7 +4,7 @@ use mathlib.Core.List.{List, _++_, append-assoc}
 use Prim.Native.Nat.{ℕ, _+_, _-_, _≤_}
 use native.Mathlib.Nat.{add-assoc}
 use native.Mathlib.Omega.{arith}
-use lib.ListN.{length, take, drop, length-append, length-replicate, replicate-append-replicate}
+use lib.ListN.{length, take, length-append, length-replicate, replicate-append-replicate}
 use lib.Seq.{length-take-le, take-append-le, take-take, drop-at}
 use Rattle.octets.specs.Octets.{part, put, zeros, filled}
 use Rattle.octets.proofs.PartLaws.{put-seam, part-seam, length-part, put-next}
@@ -16,15 +16,15 @@ put-at p q r vs at e h = rw (← e) (put-seam p q r vs h)
 pub part-at : (p q r : List ℕ) (at n : ℕ) → length p ≡ at → length q ≡ n → part at n (p ++ q ++ r) ≡ q
 part-at p q r at n e f = rw (← e, ← f) (part-seam p q r)
 
--- a put before a put is one put
-put-ahead : (at : ℕ) (us vs xs : List ℕ) → at + length us + length vs ≤ length xs → put at us (put (at + length us) vs xs) ≡ put at (us ++ vs) xs
+-- a put right before a put is one put
+pub put-ahead : (at : ℕ) (us vs xs : List ℕ) → at + length us ≤ length xs → put at us (put (at + length us) vs xs) ≡ put at (us ++ vs) xs
 unfolding put
 put-ahead at us vs xs h =
     let n : ℕ = at + length us in
-    let d : List ℕ = drop (n + length vs) xs in
-    let l : length (take n xs) ≡ n = length-take-le n xs (omega arith) in
-    rw (append-assoc (take n xs) vs d, drop-at (take n xs) (vs ++ d) n l, take-append-le at (take n xs) (vs ++ d) (omega arith), take-take at n xs (omega arith), length-append us vs, ← add-assoc at (length us) (length vs))
-    (simp append-assoc)
+    let l : length (take n xs) ≡ n = length-take-le n xs h in
+    let m : at ≤ length (take n xs) = omega arith in
+    let o : at ≤ n = omega arith in
+    rw (append-assoc (take n xs), take-append-le, take-take, drop-at, length-append, ← add-assoc) (simp append-assoc)
 
 -- ---- of slices: n bytes make room for us and us is put there, n bytes close a gap of k and zeros are put behind them
 

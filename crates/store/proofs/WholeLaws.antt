@@ -1,16 +1,15 @@
 -- The whole directory and value slice out of their parts: a new records part and a new count are a new directory. Assumes nothing.
 use mathlib.Core.Path.{_≡_, refl, sym, ap, _∙_}
-use mathlib.Core.List.{List, [], _∷_, _++_, append-assoc}
-use Prim.Native.Nat.{ℕ, _+_, _-_, _*_, _≤_}
+use mathlib.Core.List.{List, [], _++_, append-assoc}
+use Prim.Native.Nat.{ℕ, _*_, _≤_}
 use native.Mathlib.Nat.{zero-add}
 use native.Mathlib.Omega.{arith}
 use lib.ListN.{length, take, drop, length-append, take-append-drop}
-use lib.Seq.{take-at}
 use Rattle.octets.specs.Octets.{part, put, bytes, zeros}
 use Rattle.octets.proofs.PartLaws.{put-seam}
 use Rattle.octets.proofs.ZeroLaws.{length-filled}
 use Rattle.store.specs.Formats.{formatOf, needed}
-use Rattle.store.specs.Maps.{Pair, values}
+use Rattle.store.specs.Maps.{Pair}
 use Rattle.store.specs.Space.{Space, withPairs}
 use Rattle.store.specs.Image.{headOf, recordsOf, recordsPart, valuesPart, directoryOf, valuesOf}
 use Rattle.store.proofs.SpaceLaws.{Within}

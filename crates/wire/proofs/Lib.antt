@@ -4,3 +4,4 @@ pub mod WordLaws
 pub mod CompletionLaws
 pub mod FirstLaws
 pub mod PageLaws
+pub mod FitLaws
