@@ -1,17 +1,17 @@
 -- A command keeps a space within its limits; its status is a byte; a refusal keeps pairs and buffer. Assumes nothing.
 use mathlib.Core.Path.{_≡_, refl, sym}
-use mathlib.Core.Bool.{Bool, true, false, cond, not, _&&_, and-true}
+use mathlib.Core.Bool.{Bool, true, false, cond, not, _&&_, _||_, and-true}
 use mathlib.Core.List.{List}
 use Prim.Native.Nat.{ℕ, suc, _+_, _≤_, _<_}
 use native.Mathlib.Omega.{arith}
 use lib.ListN.{length, take, length-take}
 use lib.Dec.{leb, ltb, eqb}
-use borrow.Author.Tests.{leb-false, ltb-false, eqb-true, eqb-false}
+use borrow.Author.Tests.{leb-false, ltb-false, eqb-true, eqb-false, not-false}
 use Rattle.octets.specs.Keys.{Key}
-use Rattle.octets.proofs.TestLaws.{none-holds, neither, first-below}
+use Rattle.octets.proofs.TestLaws.{None, none-holds, neither, first-below}
 use Rattle.octets.proofs.OrderLaws.{Rising}
 use Rattle.wire.specs.declared.entries.Command.{Command}
-use Rattle.wire.specs.Entry.{keyOf, isStore, isDelete, isList}
+use Rattle.wire.specs.Entry.{keyOf, isStore, isRetrieve, isList, isDelete, isExist, ifPresent}
 use Rattle.store.specs.Formats.{formatOf}
 use Rattle.store.specs.Maps.{Pair, keys, present, insert, erase, used}
 use Rattle.store.specs.Space.{Space, withPairs}
@@ -46,7 +46,34 @@ pub refused : (ok : Bool) (s : Space) (c : Command) (b : List ℕ) → eqb (stat
 unfolding answer
 refused ok s c b e = rw e
 
--- ---- what a Store has that no step refuses
+-- ---- what a command has that no step refuses
+
+right-false : (a b : Bool) → a ≡ true → (a && b) ≡ false → b ≡ false
+right-false true b h e = e
+right-false false b h e = cc
+
+module _ (ok : Bool) (s : Space) (c : Command) (n : ℕ) (e : statusOf ok s c n ≡ 0) where
+  none : None (steps (viewOf ok s c n) c)
+  unfolding statusOf steps
+  none = none-holds (steps (viewOf ok s c n) c) tt e
+
+  pub few : c .len ≤ 16
+  unfolding steps
+  few = ltb-false 16 (c .len) (none .1 .1 .1 .1 .0)
+
+  pub page-room : isList (c .opcode) ≡ true → 4 ≤ c .amount
+  unfolding steps
+  page-room o = ltb-false (c .amount) 4 (right-false _ _ o (none .1 .1 .1 .1 .1 .1 .1 .0))
+
+  pub buffer-room : (isStore (c .opcode) || isRetrieve (c .opcode) || isList (c .opcode)) ≡ true → c .amount ≤ n
+  unfolding steps
+  buffer-room o = ltb-false n (c .amount) (right-false _ _ o (none .1 .1 .1 .1 .1 .1 .1 .1 .0))
+
+  pub key-held : (isRetrieve (c .opcode) || isDelete (c .opcode) || isExist (c .opcode) || ifPresent c) ≡ true → present (keyOf c) (s .pairs) ≡ true
+  unfolding steps
+  key-held o = not-false (present (keyOf c) (s .pairs)) (right-false _ _ o (none .1 .1 .1 .1 .1 .1 .1 .1 .1 .0))
+
+-- ---- what a Store has
 
 pub record Storable (s : Space) (c : Command) (n : ℕ) : Type 0 where
   pub few : c .len ≤ 16
@@ -57,7 +84,7 @@ pub record Storable (s : Space) (c : Command) (n : ℕ) : Type 0 where
   pub count : cond (present (keyOf c) (s .pairs)) (length (s .pairs)) (suc (length (s .pairs))) ≤ formatOf (s .index) .maxkeys
   pub room : used (s .pairs) + c .len + c .amount ≤ s .size
 
-storable : (ok : Bool) (s : Space) (c : Command) (n : ℕ) → Within s → statusOf ok s c n ≡ 0 → c .opcode ≡ 0x01 → Storable s c n
+pub storable : (ok : Bool) (s : Space) (c : Command) (n : ℕ) → Within s → statusOf ok s c n ≡ 0 → c .opcode ≡ 0x01 → Storable s c n
 unfolding statusOf steps
 storable ok s c n w e op =
     let r = none-holds (steps (viewOf ok s c n) c) tt e in

@@ -3,3 +3,5 @@ pub mod AnswerLaws
 pub mod CommandLaws
 mod RowLaws
 mod ListLaws
+mod LendLaws
+mod RuledLaws

@@ -34,6 +34,9 @@ pub record Effect : Type 0 where
   pub buffer : List ℕ
   pub memory : Memory
 
+abbrev pub effect : ℕ → List ℕ → List ℕ → List ℕ → Effect
+effect n b d v = record { dword0 = n; buffer = b; memory = record { directory = d; values = v } }
+
 unfoldable pub performed : Command → List ℕ → Memory → Effect
 performed c b m =
     let s = spaceOf (m .directory) (m .values) in

@@ -14,6 +14,9 @@ pub record Memory : Type 0 where
   pub directory : List ℕ
   pub values : List ℕ
 
+abbrev pub memory : List ℕ → List ℕ → Memory
+memory d v = record { directory = d; values = v }
+
 -- bytes past the needed part stay as they were
 abbrev pub imageOver : Space → Memory → Memory
 imageOver s m = record { directory = put 0 (directoryOf s) (m .directory); values = put 0 (valuesOf s) (m .values) }

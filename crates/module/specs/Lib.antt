@@ -3,4 +3,6 @@ pub mod Answer
 pub mod Formatting
 pub mod Command
 pub mod Lists
+pub mod Lends
+pub mod Ruled
 pub mod History

@@ -1,3 +1,4 @@
 // The device's side: steps a to j on a read command.
 pub mod lists;
+pub mod parts;
 pub mod steps;

@@ -5,6 +5,14 @@ pub mod CountLaws
 pub mod SpaceLaws
 pub mod ImageLaws
 pub mod WholeLaws
+pub mod OctetLaws
+mod CheckTurns
+mod ClearLaws
+mod CheckSlots
+mod PassLaws
+pub mod CheckLaws
+mod FoundLaws
+mod VerdictLaws
 pub mod RankLaws
 mod FindLaws
 mod EditLaws

@@ -65,6 +65,10 @@ pub length-erased : (i : ℕ) (m : List Pair) → i < length m → length (erase
 unfolding erased
 length-erased i m l = length-append (take i m) (drop (suc i) m) ∙ omega (arith, length-take-le i m (omega arith), length-drop (suc i) m)
 
+pub length-inserted : (i : ℕ) (p : Pair) (m : List Pair) → i ≤ length m → length (inserted i p m) ≡ length m + 1
+unfolding inserted
+length-inserted i p m l = length-append (take i m) (p ∷ drop i m) ∙ omega (arith, length-take-le i m l, length-drop i m)
+
 pub within-erased : (h : Head) (i : ℕ) (m : List Pair) → i < length m → Within (spaceWith h m) → Within (spaceWith h (erased i m))
 within-erased h i m l w =
     record {

@@ -3,5 +3,6 @@ pub mod Maps
 pub mod Space
 pub mod Image
 pub mod Parts
+pub mod Checks
 pub mod Finds
 pub mod Verbs

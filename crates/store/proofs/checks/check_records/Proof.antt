@@ -1,0 +1,39 @@
+use Prim.Native.Nat.{_-_, _≤_}
+use native.Mathlib.Omega.{arith}
+use borrow.Author.Needs.{needs}
+use Rattle.store.proofs.CheckTurns.{Walked, walked-none, walked-done, slot-refused, slot-short, walked-more}
+use Rattle.store.proofs.checks.check_records.Statement.{statement}
+use Rattle.store.proofs.checks.check_records.Tie as tie
+
+abbrev Inv-loop : tie.InvT-loop
+Inv-loop records h f count before₀ total₀ used₀ j₀ before total used j = Walked h f records before total used j
+
+abbrev μ-loop : tie.MeasureT-loop
+μ-loop records h f count before₀ total₀ used₀ j₀ before total used j = h .count - j
+
+-- a record that passed is short
+short : (c : tie.Else1 Inv-loop μ-loop) → (c .before .before .slot-at .result .length ≤ 16) × (c .before .before .slot-at .result .size ≤ 4096)
+short c =
+    let r = c .before .before in
+    let b = slot-short (r .before .before .loop .inv) (omega arith) _ (r .slot-at .ensures) _ (c .before .slot-ok .ensures) (c .if1 .left) in
+    (omega arith, omega arith)
+
+pub check-records-spec : {M : Type 1} → statement M
+check-records-spec =
+    tie.close
+    (tie.spec
+    Inv-loop
+    μ-loop
+    (λ c. search needs)
+    (λ c. walked-none _ _ _)
+    (λ c. omega arith)
+    (λ c κs. search needs)
+    (λ c κs. search needs)
+    (λ c. search slot-refused)
+    (λ c. omega (arith, short (c .before)))
+    (λ c. omega (arith, short (c .before .before)))
+    (λ c. omega (arith, short (c .before .before)))
+    (λ c. omega arith)
+    (λ c. omega arith)
+    (λ c. search walked-more)
+    (λ c. search walked-done))

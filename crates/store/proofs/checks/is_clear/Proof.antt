@@ -1,0 +1,18 @@
+use borrow.Author.Needs.{needs}
+use borrow.Author.Tests.{lt-ltb, le-ltb}
+use Rattle.store.specs.Checks.{clearWide}
+use Rattle.store.proofs.checks.is_clear.Statement.{statement}
+use Rattle.store.proofs.checks.is_clear.Tie as tie
+
+pub is-clear-spec : {M : Type 1} → statement M
+unfolding clearWide
+is-clear-spec =
+    tie.close
+    (tie.spec
+    (λ c. search needs)
+    (λ c. search needs)
+    (λ c. rw (lt-ltb _ 8 (c .before .before .before .if1 .taken)))
+    (λ c. search needs)
+    (λ c. search needs)
+    (λ c. rw (le-ltb _ 8 (c .before .before .before .before .if1 .left), lt-ltb _ 16 (c .before .before .if2 .taken)))
+    (λ c. rw (le-ltb _ 8 (c .before .before .if1 .left), le-ltb _ 16 (c .if2 .left))))
