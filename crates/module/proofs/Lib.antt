@@ -5,3 +5,4 @@ mod RowLaws
 mod ListLaws
 mod LendLaws
 mod RuledLaws
+mod EffectLaws

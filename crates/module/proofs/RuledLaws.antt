@@ -93,7 +93,7 @@ module _ (c : Command) (k : Checked) (f : Found) (b d v : List ℕ) (r : Ruled c
   rd : Ready k d v
   rd = ready k d v (r .check) (r .legal)
 
-  slot-is : f .slot ≡ rank (keyOf c) (keys m)
+  pub slot-is : f .slot ≡ rank (keyOf c) (keys m)
   slot-is = ap (λ (x : Found). x .slot) (r .find)
 
   held-is : f .held ≡ hasKey (keyOf c) (keys m)
@@ -114,13 +114,13 @@ module _ (c : Command) (k : Checked) (f : Found) (b d v : List ℕ) (r : Ruled c
 
   -- ---- a key that is held
 
-  there : f .held ≡ true → hasKey (keyOf c) (keys m) ≡ true
+  pub there : f .held ≡ true → hasKey (keyOf c) (keys m) ≡ true
   there h = sym held-is ∙ h
 
-  inside : f .held ≡ true → f .slot < length m
+  pub inside : f .held ≡ true → f .slot < length m
   inside h = omega (arith, slot-is, rank-held (keyOf c) m (there h))
 
-  must : (isRetrieve (c .opcode) || isDelete (c .opcode) || isExist (c .opcode) || ifPresent c) ≡ true → f .held ≡ true
+  pub must : (isRetrieve (c .opcode) || isDelete (c .opcode) || isExist (c .opcode) || ifPresent c) ≡ true → f .held ≡ true
   must o = held-is ∙ has-present (keyOf c) m ∙ key-held true (spaceOf d v) c (length b) (r .status) o
 
   -- ---- Store
@@ -128,6 +128,12 @@ module _ (c : Command) (k : Checked) (f : Found) (b d v : List ℕ) (r : Ruled c
   module _ (op : c .opcode ≡ 0x01) where
     can : Storable (spaceOf d v) c (length b)
     can = storable true (spaceOf d v) c (length b) (rd .within) (r .status) op
+
+    pub key-room : c .len ≤ length (c .key)
+    key-room = omega (arith, r .sixteen, can .few)
+
+    pub value-room : c .amount ≤ length b
+    value-room = can .lent
 
     key-long : length (keyOf c) ≡ c .len
     key-long = omega (arith, length-take (c .len) (c .key), r .sixteen, can .few)

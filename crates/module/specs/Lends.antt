@@ -9,8 +9,10 @@ use Rattle.store.specs.Formats.{needed}
 use Rattle.store.specs.Maps.{Pair}
 use Rattle.store.specs.Image.{recordsPart, valuesPart}
 use Rattle.store.specs.Parts.{slots}
+use Rattle.store.specs.Reads.{CanCopy}
 use Rattle.store.specs.Verbs.{CanInsert, CanRemove, CanReplace}
 use Rattle.module.specs.Formatting.{Memory}
+use Rattle.module.specs.Lists.{Listing}
 
 -- the slices are as long as the head needs them
 pub record Lends (h : Head) (d v : List ℕ) : Type 0 where
@@ -44,3 +46,12 @@ pub record MayReplace (h : Head) (t i : ℕ) (k x d v : List ℕ) : Type 0 where
 pub record MayRemove (h : Head) (t i : ℕ) (d v : List ℕ) : Type 0 where
   pub lends : Lends h d v
   pub can : CanRemove h t i (recordsIn h d) (valuesIn h v)
+
+pub record MayRead (h : Head) (i n : ℕ) (d v b : List ℕ) : Type 0 where
+  pub lends : Lends h d v
+  pub can : CanCopy i n (recordsIn h d) (valuesIn h v) b
+
+pub record MayList (h : Head) (i n : ℕ) (d b : List ℕ) : Type 0 where
+  pub index : h .index < 16
+  pub directory : needed (h .index) ≤ length d
+  pub can : Listing (h .count) i n (recordsIn h d) b

@@ -20,3 +20,4 @@ pub mod SlotLaws
 mod VerbLaws
 pub mod HeldLaws
 pub mod ReplaceLaws
+mod ReadLaws

@@ -6,3 +6,4 @@ pub mod Parts
 pub mod Checks
 pub mod Finds
 pub mod Verbs
+pub mod Reads

@@ -4,5 +4,6 @@ pub mod checks;
 pub mod finds;
 pub mod formats;
 pub mod heads;
+pub mod reads;
 pub mod records;
 pub mod verbs;
