@@ -2,7 +2,7 @@
 -- the empty map; what lies past the needed part changes no outcome and is not written. Assumes nothing.
 use mathlib.Core.Path.{_≡_, refl, sym, ap, _∙_}
 use mathlib.Core.Bool.{Bool, true, false, cond}
-use mathlib.Core.List.{List, []}
+use mathlib.Core.List.{List}
 use Prim.Native.Nat.{ℕ}
 use native.Mathlib.Nat.{zero-add}
 use native.Mathlib.Omega.{arith}
@@ -23,7 +23,7 @@ use Rattle.store.proofs.ImageLaws.{Image, length-directory, length-values, imag
 use Rattle.module.specs.Steps.{steps, statusOf}
 use Rattle.module.specs.Answer.{Answer, answer}
 use Rattle.module.specs.Formatting.{Memory, imageOver, format}
-use Rattle.module.specs.Command.{Post, completionOf, Lent, serve, command}
+use Rattle.module.specs.Command.{Post, completionOf, Lent, respond, serve, command}
 use Rattle.module.proofs.AnswerLaws.{answer-status, answer-within, refused}
 
 -- the memory is the image of s, which is within its limits
@@ -54,11 +54,11 @@ module _ (p : Post) (c : Command) (l : Lent) (s : Space) (h : Holds s (l .memory
 
   -- the answer on the map is what is seen of it
   pub serve-is : serve p c l ≡ record {
-    completion = completionOf p c given;
+    completion = completionOf p c (given .status) (given .dword0);
     buffer = given .buffer;
     memory = cond (eqb (given .status) 0) (imageOver (withPairs s (given .pairs)) (l .memory)) (l .memory);
   }
-  unfolding serve
+  unfolding serve respond
   serve-is =
       rw (
         holds-legal s (l .memory) h,
@@ -82,7 +82,7 @@ module _ (p : Post) (c : Command) (l : Lent) (s : Space) (h : Holds s (l .memory
 pub serve-refused : (p : Post) (c : Command) (l : Lent)
     → eqb (statusOf (legal (l .memory .directory) (l .memory .values)) (spaceOf (l .memory .directory) (l .memory .values)) c (length (l .buffer))) 0 ≡ false
     → (serve p c l .buffer ≡ l .buffer) × (serve p c l .memory ≡ l .memory)
-unfolding serve
+unfolding serve respond
 serve-refused p c l e =
     let ok = legal (l .memory .directory) (l .memory .values) in
     let s = spaceOf (l .memory .directory) (l .memory .values) in
@@ -165,9 +165,9 @@ serve-kept p c l s h sixteen = rw (serve-is p c l s h) (go (eqb (given p c l s h
     go false = record { directory = refl; values = refl }
 
 serve-illegal : (p : Post) (c : Command) (x b : List ℕ) (m : Memory) → legal (m .directory) (m .values) ≡ false
-    → (serve p c (record { completion = x; buffer = b; memory = m }) .completion ≡ completionOf p c (record { status = 0x06; dword0 = 0; buffer = b; pairs = [] }))
+    → (serve p c (record { completion = x; buffer = b; memory = m }) .completion ≡ completionOf p c 0x06 0)
     × (serve p c (record { completion = x; buffer = b; memory = m }) .buffer ≡ b)
-unfolding serve answer statusOf steps
+unfolding serve respond answer statusOf steps
 serve-illegal p c x b m e = (rw e, rw e)
 
 -- they change no outcome: the needed part of a memory is as long as its head says

@@ -6,3 +6,4 @@ mod ListLaws
 mod LendLaws
 mod RuledLaws
 mod EffectLaws
+mod LookLaws

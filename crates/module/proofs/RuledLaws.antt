@@ -10,7 +10,7 @@ use Rattle.wire.specs.Entry.{keyOf, isRetrieve, isDelete, isExist, ifPresent}
 use Rattle.store.specs.declared.checks.Checked.{Checked}
 use Rattle.store.specs.declared.finds.Found.{Found}
 use Rattle.store.specs.Formats.{formatOf}
-use Rattle.store.specs.Maps.{Pair, pair, keys, values, insert, erase, present}
+use Rattle.store.specs.Maps.{Pair, pair, keys, values, used, insert, erase, present}
 use Rattle.store.specs.Space.{withPairs}
 use Rattle.store.specs.Image.{headOf, pairsIn, spaceOf, legal}
 use Rattle.store.specs.Parts.{slots, Holds, inserted, erased}
@@ -40,7 +40,9 @@ pub record Ready (k : Checked) (d v : List ℕ) : Type 0 where
   pub within : Within (spaceOf d v)
   pub head : k .head ≡ headIn d
   pub same-index : spaceOf d v .index ≡ k .head .index
+  pub same-id : spaceOf d v .id ≡ k .head .id
   pub same-size : spaceOf d v .size ≡ k .head .size
+  pub used : k .used ≡ used (spaceOf d v .pairs)
 
 index-in : (d v : List ℕ) → spaceOf d v .index ≡ headIn d .index
 unfolding spaceOf headIn
@@ -49,6 +51,10 @@ index-in d v = refl
 size-in : (d v : List ℕ) → spaceOf d v .size ≡ headIn d .size
 unfolding spaceOf headIn
 size-in d v = refl
+
+id-in : (d v : List ℕ) → spaceOf d v .id ≡ headIn d .id
+unfolding spaceOf headIn
+id-in d v = refl
 
 pub ready : (k : Checked) (d v : List ℕ) → k ≡ checked d v → legal d v ≡ true → Ready k d v
 ready k d v e ok = rw (e ∙ checked-is d v ok) facts
@@ -67,7 +73,9 @@ ready k d v e ok = rw (e ∙ checked-is d v ok) facts
           within = rw (l .space) (within-true _ (l .holds .limits));
           head = refl;
           same-index = index-in d v;
+          same-id = id-in d v;
           same-size = size-in d v;
+          used = refl;
         }
 
 -- the parts of a new map in place of the old ones are its image

@@ -9,8 +9,8 @@ use Rattle.wire.specs.Entry.{readCommand, notEntry}
 use Rattle.wire.specs.Completion.{writeCompletion, notCompletion}
 use Rattle.store.specs.Space.{withPairs}
 use Rattle.store.specs.Image.{spaceOf, legal}
-use Rattle.module.specs.Answer.{Answer, dwordAfter, bufferAfter, pairsAfter, answer}
-use Rattle.module.specs.Formatting.{Memory, imageOver}
+use Rattle.module.specs.Answer.{dwordAfter, bufferAfter, pairsAfter, answer}
+use Rattle.module.specs.Formatting.{Memory, memory, imageOver}
 
 -- what the caller gives for the completion; of phase only the lowest bit counts
 pub record Post : Type 0 where
@@ -18,15 +18,21 @@ pub record Post : Type 0 where
   pub queue : ℕ
   pub phase : ℕ
 
-abbrev pub completionOf : Post → Command → Answer → List ℕ
-completionOf p c a =
-    writeCompletion (record { dword0 = a .dword0; head = p .head; queue = p .queue; cid = c .cid; phase = p .phase % 2; status = a .status; kind = 0 })
+abbrev pub post : ℕ → ℕ → ℕ → Post
+post head queue phase = record { head = head; queue = queue; phase = phase }
+
+abbrev pub completionOf : Post → Command → ℕ → ℕ → List ℕ
+completionOf p c status dword0 =
+    writeCompletion (record { dword0 = dword0; head = p .head; queue = p .queue; cid = c .cid; phase = p .phase % 2; status = status; kind = 0 })
 
 -- the lent slices
 pub record Lent : Type 0 where
   pub completion : List ℕ
   pub buffer : List ℕ
   pub memory : Memory
+
+abbrev pub lent : List ℕ → List ℕ → List ℕ → List ℕ → Lent
+lent c b d v = record { completion = c; buffer = b; memory = memory d v }
 
 -- what a command does that no step refuses: Dword 0, the data buffer, the memory
 pub record Effect : Type 0 where
@@ -35,7 +41,7 @@ pub record Effect : Type 0 where
   pub memory : Memory
 
 abbrev pub effect : ℕ → List ℕ → List ℕ → List ℕ → Effect
-effect n b d v = record { dword0 = n; buffer = b; memory = record { directory = d; values = v } }
+effect n b d v = record { dword0 = n; buffer = b; memory = memory d v }
 
 unfoldable pub performed : Command → List ℕ → Memory → Effect
 performed c b m =
@@ -46,21 +52,39 @@ performed c b m =
       memory = imageOver (withPairs s (pairsAfter c b (s .pairs))) m;
     }
 
--- a read command: the store's memory is written only where the status is 00h
-unfoldable pub serve : Post → Command → Lent → Lent
-serve p c l =
-    let m = l .memory in
+-- what a read command answers, and the data buffer and memory it leaves
+pub record Response : Type 0 where
+  pub status : ℕ
+  pub dword0 : ℕ
+  pub buffer : List ℕ
+  pub memory : Memory
+
+abbrev pub response : ℕ → ℕ → List ℕ → List ℕ → List ℕ → Response
+response st n b d v = record { status = st; dword0 = n; buffer = b; memory = memory d v }
+
+-- the store's memory is written only where the status is 00h
+unfoldable pub respond : Command → List ℕ → Memory → Response
+respond c b m =
     let s = spaceOf (m .directory) (m .values) in
-    let a = answer (legal (m .directory) (m .values)) s c (l .buffer) in
+    let a = answer (legal (m .directory) (m .values)) s c b in
     record {
-      completion = completionOf p c a;
+      status = a .status;
+      dword0 = a .dword0;
       buffer = a .buffer;
       memory = cond (eqb (a .status) 0) (imageOver (withPairs s (a .pairs)) m) m;
     }
 
+unfoldable pub serve : Post → Command → Lent → Lent
+serve p c l =
+    let r = respond c (l .buffer) (l .memory) in
+    record { completion = completionOf p c (r .status) (r .dword0); buffer = r .buffer; memory = r .memory }
+
 pub record Outcome : Type 0 where
   pub number : ℕ
   pub after : Lent
+
+abbrev pub outcome : ℕ → Lent → Outcome
+outcome n l = record { number = n; after = l }
 
 -- numbers 1 and 2 write nothing at all
 unfoldable pub command : Post → List ℕ → Lent → Outcome

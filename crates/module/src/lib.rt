@@ -1,5 +1,6 @@
-// The device's side: steps a to j on a read command.
-pub mod effects;
-pub mod lists;
-pub mod parts;
-pub mod steps;
+// The device's side: formatting, and one command from its entry to its completion, exported to C (`include/kv.h`).
+pub mod commands;
+mod effects;
+mod lists;
+mod parts;
+mod steps;
