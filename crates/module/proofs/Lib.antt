@@ -7,3 +7,4 @@ mod LendLaws
 mod RuledLaws
 mod EffectLaws
 mod LookLaws
+mod FormatLaws
