@@ -35,10 +35,8 @@ static int padded(struct wide w, uint32_t n) {
 }
 
 static int all_zero(const uint8_t *p, size_t n) {
-    uint64_t seen = 0;
-    size_t i = 0;
-    for (; i + 32 <= n; i += 32) seen |= load64(p + i) | load64(p + i + 8) | load64(p + i + 16) | load64(p + i + 24);
-    for (; i < n; i++) seen |= p[i];
+    uint8_t seen = 0; /* the compiler makes this loop wide */
+    for (size_t i = 0; i < n; i++) seen |= p[i];
     return seen == 0;
 }
 

@@ -51,4 +51,43 @@ uint32_t kv_command(const uint8_t *entry, size_t entry_len, uint8_t *completion,
                     size_t data_len, uint8_t *directory, size_t directory_len, uint8_t *values, size_t values_len, uint16_t head,
                     uint16_t queue, uint16_t phase);
 
+/* ---- The host's side, in libhost.a (`rt staticlib host`). It needs no store: an entry is built, a completion and a List page are
+ * read. Each call gives a number as above; where that is not 0, every other field that it gives is 0. */
+
+/* Numbers of the host's side, with 1 and 2. */
+enum {
+    KV_PAGE_LENGTH = 7,     /* page shorter than 4 bytes */
+    KV_PAGE_ENTRY = 8,      /* page entry runs past the end */
+    KV_PAGE_KEY_LENGTH = 9, /* page key length 0 or above 16 */
+    KV_PAGE_PADDING = 10,   /* page padding not zero */
+    KV_PAGE_ORDER = 11,     /* page key not above the one before */
+    KV_BUILD_KEY = 12,      /* key to build longer than 16 */
+    KV_BUILD_OPCODE = 13    /* opcode to build not one of the five */
+};
+
+/* Builds a 64-byte entry. Dword 10 of Delete and Exist and the options of all but Store are not taken: the entry has 0 there.
+ * Numbers 1, 12, 13, tried in that order. */
+uint32_t kv_build(uint8_t *entry, size_t entry_len, uint8_t opcode, uint16_t cid, uint32_t nsid, const uint8_t *key, size_t key_len,
+                  uint32_t dword10, uint8_t options);
+
+/* The fields of a completion; `head` and `queue` are those of the submission queue, `type` is the status code type. */
+struct kv_completion {
+    uint32_t number, dword0;
+    uint16_t head, queue, cid;
+    uint8_t phase, status, type;
+};
+
+/* Reads a 16-byte completion. Number 2. */
+struct kv_completion kv_read_completion(const uint8_t *completion, size_t completion_len);
+
+/* How many keys a page has, and one of them; the bytes of `key` past `len` are 0. */
+struct kv_page_key {
+    uint32_t number, count, len;
+    uint8_t key[16];
+};
+
+/* Reads a List page: checks all of it, then gives the key of `ordinal`, counted from 0; `len` is 0 where the page has no such key.
+ * Bytes after the last entry are ignored. Number 7, then entry by entry 8 for the length, 9, 8 for key and padding, 10, 11. */
+struct kv_page_key kv_read_page(const uint8_t *page, size_t page_len, uint32_t ordinal);
+
 #endif

@@ -1,0 +1,6 @@
+-- What was built or written is read back, for the proofs of the crates above; `LoopLaws` has the invariant of the loop over a
+-- page's entries.
+pub mod BuildLaws
+pub mod ReplyLaws
+pub mod PageKeyLaws
+mod LoopLaws

@@ -1,0 +1,138 @@
+-- The loop of the page reader. At its head i entries are passed, the next starts at `at`, the key passed last stands in the part
+-- from `last` to `end`, the key asked for in the part from `asked` to `stop`. Assumes nothing.
+use mathlib.Core.Path.{_≡_, refl, sym, ap, _∙_}
+use mathlib.Core.Bool.{cond}
+use mathlib.Core.List.{List, [], _∷_, _++_, append-nil, append-assoc}
+use Prim.Native.Nat.{ℕ, zero, suc, _+_, _-_, _≤_, _<_}
+use native.Mathlib.Nat.{sub-zero}
+use native.Mathlib.Omega.{arith}
+use lib.Dec.{eqb}
+use lib.ListN.{length, drop, getD, length-append, length-drop}
+use lib.Seq.{drop-drop, getD-at}
+use borrow.Author.Tests.{le-ltb, lt-ltb, eq-eqb, ne-eqb}
+use Rattle.octets.specs.Octets.{part, number}
+use Rattle.octets.specs.Keys.{Key}
+use Rattle.octets.proofs.PartLaws.{part-drop, part-rest}
+use Rattle.wire.specs.declared.pages.PageEntry.{PageEntry}
+use Rattle.wire.specs.Page.{entrySize, firstEntry, Reading, refused, keys, more, readEntries, readPage}
+use Rattle.wire.proofs.FirstLaws.{First, first-fits}
+use Rattle.host.specs.PageKey.{refusal, given, pageKey}
+
+-- a reading with keys before its own
+abbrev after : List Key → Reading → Reading
+after ks (refused n) = refused n
+after ks (keys ls) = keys (ks ++ ls)
+
+after-none : (r : Reading) → after [] r ≡ r
+after-none (refused n) = refl
+after-none (keys ls) = refl
+
+after-more : (ks : List Key) (k : Key) (r : Reading) → after ks (more k r) ≡ after (ks ++ (k ∷ [])) r
+after-more ks k (refused n) = refl
+after-more ks k (keys ls) = ap keys (sym (append-assoc ks (k ∷ []) ls))
+
+-- one more key is the key of no other ordinal than its own
+other : (ks : List Key) (k : Key) (o : ℕ) → (o ≡ length ks → ⊥) → getD (ks ++ (k ∷ [])) o [] ≡ getD ks o []
+other [] k zero h = absurd (h refl)
+other [] k (suc o) h = refl
+other (j ∷ ks) k zero h = refl
+other (j ∷ ks) k (suc o) h = other ks k o (λ e. h (ap suc e))
+
+pub record Passed (p : List ℕ) (o count i at last end asked stop : ℕ) : Type 0 where
+  pub within : i ≤ count
+  pub in-page : at ≤ length p
+  pub last-up : last ≤ end
+  pub last-in : end ≤ length p
+  pub asked-up : asked ≤ stop
+  pub asked-in : stop ≤ length p
+  pub short : stop ≤ asked + 16
+  pub seen : List Key
+  pub many : length seen ≡ i
+  pub found : getD seen o [] ≡ part asked (stop - asked) p
+  pub is : readPage p ≡ after seen (readEntries (count - i) (part last (end - last) p) (drop at p))
+
+pub page-short : (p : List ℕ) (o : ℕ) → length p < 4 → refusal 7 ≡ pageKey (readPage p) o
+unfolding readPage
+page-short p o h = rw (lt-ltb (length p) 4 h)
+
+pub passed-none : (p : List ℕ) (o count : ℕ) → count ≡ number (part 0 4 p) → 4 ≤ length p → Passed p o count 0 4 4 4 4 4
+unfolding part readPage
+passed-none p o count e h =
+    record {
+      within = omega arith;
+      in-page = h;
+      last-up = omega arith;
+      last-in = h;
+      asked-up = omega arith;
+      asked-in = h;
+      short = omega arith;
+      seen = [];
+      many = refl;
+      found = refl;
+      is = rw (le-ltb (length p) 4 h, sub-zero, e) (sym (after-none _));
+    }
+
+module _ {p : List ℕ} {o count i at last end asked stop : ℕ} (g : Passed p o count i at last end asked stop) where
+  pub passed-all : count ≤ i → given count (part asked (stop - asked) p) ≡ pageKey (readPage p) o
+  passed-all h =
+      let z : count - i ≡ 0 = omega arith in
+      let n : length (g .seen) ≡ count = omega arith in
+      let r : readPage p ≡ keys (g .seen ++ []) = rw z at (g .is) in
+      rw (r, append-nil (g .seen), g .found, n)
+
+  module _ (e : PageEntry) (is : e ≡ firstEntry (part last (end - last) p) (part at (length p - at) p)) (h : i < count) where
+    k : Key
+    k = part 2 (e .len) (drop at p)
+
+    e-is : e ≡ firstEntry (part last (end - last) p) (drop at p)
+    e-is = is ∙ ap (firstEntry (part last (end - last) p)) (part-rest at p)
+
+    one : readPage p
+        ≡ after (g .seen) (cond (eqb (e .number) 0) (more k (readEntries (count - (i + 1)) k (drop (entrySize (e .len)) (drop at p)))) (refused (e .number)))
+    unfolding k
+    one =
+        let z : count - i ≡ suc (count - (i + 1)) = omega arith in
+        rw e-is (rw z at (g .is))
+
+    pub passed-refused : (e .number ≡ 0 → ⊥) → refusal (e .number) ≡ pageKey (readPage p) o
+    passed-refused q = ap (λ (r : Reading). pageKey r o) (sym (rw (ne-eqb (e .number) 0 q) at one))
+
+    module _ (q : e .number ≡ 0) where
+      pub passed-first : First (length p - at) (e .len)
+      passed-first = rw (← length-drop at p, e-is) (first-fits (part last (end - last) p) (drop at p) (rw e-is at q))
+
+      rest : readPage p ≡ after (g .seen ++ (k ∷ [])) (readEntries (count - (i + 1)) k (drop (entrySize (e .len)) (drop at p)))
+      rest = (rw (eq-eqb (e .number) 0 q) at one) ∙ after-more (g .seen) k (readEntries (count - (i + 1)) k (drop (entrySize (e .len)) (drop at p)))
+
+      module _ (m : ℕ) (size : m ≡ entrySize (e .len)) where
+        k-is : part (at + 2) (at + 2 + e .len - (at + 2)) p ≡ k
+        unfolding k
+        k-is =
+            let n : at + 2 + e .len - (at + 2) ≡ e .len = omega arith in
+            rw (n, part-drop at 2 (e .len) p)
+
+        passed-more : (a s : ℕ) → getD (g .seen ++ (k ∷ [])) o [] ≡ part a (s - a) p → a ≤ s → s ≤ length p → s ≤ a + 16
+            → Passed p o count (i + 1) (at + m) (at + 2) (at + 2 + e .len) a s
+        passed-more a s f up in-p short =
+            let first = passed-first in
+            record {
+              within = omega arith;
+              in-page = omega arith;
+              last-up = omega arith;
+              last-in = omega arith;
+              asked-up = up;
+              asked-in = in-p;
+              short = short;
+              seen = g .seen ++ (k ∷ []);
+              many = simp length-append (omega arith);
+              found = f;
+              is = rw (k-is, size, ← drop-drop) rest;
+            }
+
+        pub passed-asked : i ≡ o → Passed p o count (i + 1) (at + m) (at + 2) (at + 2 + e .len) (at + 2) (at + 2 + e .len)
+        passed-asked b =
+            let first = passed-first in
+            passed-more (at + 2) (at + 2 + e .len) (getD-at (g .seen) k [] [] o (omega arith) ∙ sym k-is) (omega arith) (omega arith) (omega arith)
+
+        pub passed-other : (i ≡ o → ⊥) → Passed p o count (i + 1) (at + m) (at + 2) (at + 2 + e .len) asked stop
+        passed-other b = passed-more asked stop (other (g .seen) k o (λ f. b (omega arith)) ∙ g .found) (g .asked-up) (g .asked-in) (g .short)

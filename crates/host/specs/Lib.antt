@@ -1,0 +1,3 @@
+pub mod Build
+pub mod Reply
+pub mod PageKey

@@ -1,0 +1,107 @@
+/* The host's side from C: the entry of each opcode, a completion, List pages, and every number that refuses. */
+#include "kv.h"
+
+int printf(const char *, ...);
+void *memset(void *, int, size_t);
+int memcmp(const void *, const void *, size_t);
+
+static uint8_t entry[64];
+static int failed, passed;
+
+static void expect(const char *what, int ok) {
+    passed += ok;
+    failed += !ok;
+    if (!ok) printf("FAILED: %s\n", what);
+}
+
+static int all(const uint8_t *s, size_t n, uint8_t b) {
+    for (size_t i = 0; i < n; i++)
+        if (s[i] != b) return 0;
+    return 1;
+}
+
+static uint32_t build(size_t room, int opcode, const char *key, size_t len) {
+    memset(entry, 0x5a, sizeof entry);
+    return kv_build(entry, room, opcode, 0x1234, 0xa1b2c3d4, (const uint8_t *)key, len, 0x01020304, 0xff);
+}
+
+/* the entry of a three-byte key and of a sixteen-byte key; bytes 40 to 43 and byte 45 as expected, all else the same for all five */
+static void built(const char *what, int opcode, const char *dword10, int options) {
+    uint8_t front[8] = {opcode, 0, 0x34, 0x12, 0xd4, 0xc3, 0xb2, 0xa1};
+    expect(what, build(64, opcode, "A\0B", 3) == KV_DONE);
+    expect(what, memcmp(entry, front, 8) == 0 && memcmp(entry + 8, "A\0B\0\0\0\0\0", 8) == 0 && all(entry + 16, 24, 0));
+    expect(what, memcmp(entry + 40, dword10, 4) == 0 && entry[44] == 3 && entry[45] == options && all(entry + 46, 18, 0));
+    expect(what, build(64, opcode, "0123456789abcdef", 16) == KV_DONE && entry[44] == 16);
+    expect(what, memcmp(entry + 8, "01234567", 8) == 0 && all(entry + 46, 10, 0) && memcmp(entry + 56, "89abcdef", 8) == 0);
+}
+
+static void refused(const char *what, uint32_t want, uint32_t number) { expect(what, number == want && all(entry, 64, 0x5a)); }
+
+static void builder(void) {
+    built("Store", KV_STORE, "\4\3\2\1", 0xff);
+    built("Retrieve", KV_RETRIEVE, "\4\3\2\1", 0);
+    built("List", KV_LIST, "\4\3\2\1", 0);
+    built("Delete", KV_DELETE, "\0\0\0\0", 0);
+    built("Exist", KV_EXIST, "\0\0\0\0", 0);
+    expect("empty key", build(64, KV_LIST, "", 0) == KV_DONE && entry[44] == 0 && all(entry + 8, 32, 0) && all(entry + 46, 18, 0));
+    refused("entry of 63 bytes, and all else wrong", KV_ENTRY_LENGTH, build(63, 0x03, "0123456789abcdefg", 17));
+    refused("key of 17 bytes, and no such opcode", KV_BUILD_KEY, build(64, 0x03, "0123456789abcdefg", 17));
+    refused("no such opcode", KV_BUILD_OPCODE, build(64, 0x03, "A", 1));
+    refused("opcode 0", KV_BUILD_OPCODE, build(64, 0x00, "A", 1));
+}
+
+static void completions(void) {
+    /* status 87h, type 5, phase 1, and the highest four bits set, which are no field */
+    const uint8_t c[17] = "\4\3\2\1\xee\xee\xee\xee\x11\x22\x33\x44\x34\x12\x0f\xfb";
+    struct kv_completion r = kv_read_completion(c, 16);
+    expect("completion", r.number == KV_DONE && r.dword0 == 0x01020304 && r.head == 0x2211 && r.queue == 0x4433 && r.cid == 0x1234);
+    expect("completion's word", r.phase == 1 && r.status == KV_KEY_ABSENT && r.type == 5);
+    for (size_t n = 15; n <= 17; n += 2) {
+        r = kv_read_completion(c, n);
+        expect("not 16 bytes", r.number == KV_COMPLETION_LENGTH && r.dword0 == 0 && r.head == 0 && r.queue == 0 && r.cid == 0);
+        expect("not 16 bytes: the word", r.phase == 0 && r.status == 0 && r.type == 0);
+    }
+}
+
+static void key(const char *what, const char *page, size_t n, uint32_t ordinal, uint32_t count, const char *want, uint32_t len) {
+    struct kv_page_key r = kv_read_page((const uint8_t *)page, n, ordinal);
+    expect(what, r.number == KV_DONE && r.count == count && r.len == len && memcmp(r.key, want, len) == 0 && all(r.key + len, 16 - len, 0));
+}
+
+/* ordinal 0 stands before whatever is wrong, and is not given either */
+static void bad(const char *what, const char *page, size_t n, uint32_t want) {
+    struct kv_page_key r = kv_read_page((const uint8_t *)page, n, 0);
+    expect(what, r.number == want && r.count == 0 && r.len == 0 && all(r.key, 16, 0));
+}
+
+static void pages(void) {
+    const char *p1 = "\3\0\0\0\1\0A\0\2\0AB\1\0B\0\xff\xff"; /* P1's page, and two bytes after it */
+    key("ordinal 0", p1, 16, 0, 3, "A", 1);
+    key("ordinal 1", p1, 16, 1, 3, "AB", 2);
+    key("ordinal 2", p1, 18, 2, 3, "B", 1);
+    key("ordinal 3", p1, 16, 3, 3, "", 0);
+    key("ordinal FFFFFFFFh", p1, 18, 0xffffffff, 3, "", 0);
+    key("empty page", "\0\0\0\0", 4, 0, 0, "", 0);
+    key("A and A with a zero byte", "\2\0\0\0\1\0A\0\2\0A\0", 12, 1, 2, "A\0", 2);
+    key("sixteen bytes", "\1\0\0\0\x10\0" "0123456789abcdef\0\0", 24, 0, 1, "0123456789abcdef", 16);
+    bad("three bytes", "\0\0\0", 3, KV_PAGE_LENGTH);
+    bad("no bytes", "", 0, KV_PAGE_LENGTH);
+    bad("cut in a length", p1, 13, KV_PAGE_ENTRY);
+    bad("cut in a key", p1, 14, KV_PAGE_ENTRY);
+    bad("cut in the padding", p1, 15, KV_PAGE_ENTRY);
+    bad("count above the entries", "\xff\xff\xff\xff\1\0A\0", 8, KV_PAGE_ENTRY);
+    bad("length 0", "\2\0\0\0\1\0A\0\0\0", 10, KV_PAGE_KEY_LENGTH);
+    bad("length 17, and cut", "\2\0\0\0\1\0A\0\x11\0", 10, KV_PAGE_KEY_LENGTH);
+    bad("length 256 + 1", "\2\0\0\0\1\0A\0\1\1B\0", 12, KV_PAGE_KEY_LENGTH);
+    bad("padding, and not above", "\2\0\0\0\1\0A\0\1\0A\1", 12, KV_PAGE_PADDING);
+    bad("the same key again", "\2\0\0\0\1\0A\0\1\0A\0", 12, KV_PAGE_ORDER);
+    bad("a lower key", "\2\0\0\0\2\0AB\1\0A\0", 12, KV_PAGE_ORDER);
+}
+
+int main(void) {
+    builder();
+    completions();
+    pages();
+    printf("host from C: %d passed, %d failed\n", passed, failed);
+    return failed != 0;
+}
