@@ -7,5 +7,6 @@ pub mod ZeroLaws
 pub mod PadLaws
 pub mod OrderLaws
 pub mod WideLaws
+pub mod ClearLaws
 pub mod TestLaws
 mod LoopLaws

@@ -14,7 +14,8 @@ use borrow.Author.Tests.{lt-ltb, le-ltb}
 use Rattle.octets.specs.declared.keys.Order.the-variants.{Less, Equal, Greater}
 use Rattle.octets.specs.Octets.{put, allZero}
 use Rattle.octets.specs.Keys.{orderN, then, order}
-use Rattle.octets.proofs.PartLaws.{put-none, put-more, put-less, below-put, above-put}
+use Rattle.octets.proofs.PartLaws.{put-none, below-put, above-put}
+use Rattle.octets.proofs.PutLaws.{put-more, put-less}
 use Rattle.octets.proofs.ZeroLaws.{or-zero}
 
 -- ---- n bytes vs are put at index `at` of xs, one a turn; ys is the slice at the loop's head

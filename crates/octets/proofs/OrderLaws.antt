@@ -92,7 +92,7 @@ then-same Less o e = (e, cc)
 then-same Equal o e = (refl, e)
 then-same Greater o e = (e, cc)
 
-flip-then : (x o : Order) → then (flip x) (flip o) ≡ flip (then x o)
+pub flip-then : (x o : Order) → then (flip x) (flip o) ≡ flip (then x o)
 flip-then Less o = refl
 flip-then Equal o = refl
 flip-then Greater o = refl
@@ -171,7 +171,7 @@ pub below-first-trans : (i j : Key) (ks : List Key) → Below i j → BelowFirst
 below-first-trans i j [] e f = tt
 below-first-trans i j (k ∷ ks) e f = below-trans i j k e f
 
-less-true : (o : Order) → isLess o ≡ true → o ≡ Less
+pub less-true : (o : Order) → isLess o ≡ true → o ≡ Less
 less-true Less e = refl
 less-true Equal e = cc
 less-true Greater e = cc

@@ -1,14 +1,14 @@
--- The laws of `part` and `put`. Assumes nothing.
+-- The laws of `part` and `put`: by elements, at a seam, of a part that was lent, of puts one behind the other, and of a part of a
+-- part. Assumes nothing.
 use mathlib.Core.Path.{_≡_, refl, sym, ap, _∙_}
 use mathlib.Core.List.{List, [], _∷_, _++_, append-nil, append-assoc}
-use Prim.Native.Nat.{ℕ, min, zero, suc, _+_, _-_, _≤_, _<_}
-use native.Mathlib.Nat.{add-zero, add-assoc, add-suc}
-use native.Mathlib.Numerals.{add-one}
+use Prim.Native.Nat.{ℕ, zero, suc, _+_, _-_, _≤_, _<_}
+use native.Mathlib.Nat.{zero-add, add-zero, add-assoc}
 use native.Mathlib.Omega.{arith}
 use lib.ListN.{length, take, drop, getD, set, drop-of-length-le, length-append, length-take, length-drop, take-append-drop, List·getD-append}
-use lib.Seq.{take-all, ext-getD, drop-cons, take-append-seam, drop-append-seam, take-at, drop-at, drop-drop, take-take, take-add, take-suc, length-take-le, getD-take, getD-drop, getD-append-add, set-at, paste-suc, sets, sets-eq}
+use lib.Seq.{take-all, drop-cons, take-append-seam, drop-append-seam, drop-append-le, drop-append-add, take-at, drop-at, drop-drop, take-take, take-add, getD-take, getD-drop, getD-append-add, sets, sets-eq}
 use borrow.Rule.Slice.PartMut.{putMid}
-use Rattle.octets.specs.Octets.{part, put, bytes}
+use Rattle.octets.specs.Octets.{part, put}
 
 -- ---- element by element
 
@@ -44,42 +44,6 @@ pub part-seam : (p q r : List ℕ) → part (length p) (length q) (p ++ q ++ r) 
 unfolding part
 part-seam p q r = rw (append-assoc p q r, drop-append-seam, take-append-seam)
 
--- what was put is read
-pub part-put : (at n : ℕ) (vs xs : List ℕ) → length vs ≡ n → at + n ≤ length xs → part at n (put at vs xs) ≡ vs
-unfolding put part
-part-put at n vs xs l h =
-    let e : length (take at xs) ≡ at = length-take-le at xs (omega arith) in
-    rw (append-assoc, drop-at, take-at)
-
--- what was read is put back
-pub put-part : (at n : ℕ) (xs : List ℕ) → at + n ≤ length xs → put at (part at n xs) xs ≡ xs
-unfolding put part
-put-part at n xs h =
-    rw (length-take, length-drop) (
-    let e : min n (length xs - at) ≡ n = omega arith in
-    rw (e, ← take-add, take-append-drop))
-
--- one more byte behind a put, and one more before it
-pub put-more : (at j : ℕ) (vs xs : List ℕ) → j < length vs → at + length vs ≤ length xs
-    → set (put at (take j vs) xs) (at + j) (getD vs j 0) ≡ put at (take (j + 1) vs) xs
-unfolding put
-put-more at j vs xs h k =
-    rw (length-take-le j vs (omega arith), length-take-le (j + 1) vs (omega arith), add-one)
-    (paste-suc xs at vs j 0 (omega arith) h)
-
-put-before : (at a : ℕ) (vs xs : List ℕ) → suc at + length vs ≤ length xs → set (put (suc at) vs xs) at a ≡ put at (a ∷ vs) xs
-unfolding put
-put-before at a vs xs h =
-    let l : at < length xs = omega arith in
-    let e : length (take at xs) ≡ at = length-take-le at xs (omega arith) in
-    let n : at + suc (length vs) ≡ suc at + length vs = omega arith in
-    rw (n, take-suc xs at 0) (simp append-assoc (set-at (take at xs) (getD xs at 0) _ a at e))
-
-pub put-less : (at j : ℕ) (vs xs : List ℕ) → j < length vs → at + length vs ≤ length xs
-    → set (put (at + (j + 1)) (drop (j + 1) vs) xs) (at + j) (getD vs j 0) ≡ put (at + j) (drop j vs) xs
-put-less at j vs xs h k =
-    rw (add-one, add-suc, drop-cons vs j 0) (put-before (at + j) (getD vs j 0) (drop (suc j) vs) xs (simp length-drop (omega arith)))
-
 -- bytes on either side of a put are as they were
 pub below-put : (at i : ℕ) (vs xs : List ℕ) → i < at → at ≤ length xs → getD (put at vs xs) i 0 ≡ getD xs i 0
 unfolding put
@@ -111,12 +75,6 @@ getD-part from n i xs h = rw (getD-take, getD-drop)
 
 -- ---- a part that was lent as `&mut` and has come back
 
-drop-rest : (m k : ℕ) (ys : List ℕ) → m ≤ k → drop m (take k ys) ++ drop k ys ≡ drop m ys
-drop-rest zero k ys h = take-append-drop k ys
-drop-rest (suc m) zero ys h = absurd (omega arith)
-drop-rest (suc m) (suc k) [] h = refl
-drop-rest (suc m) (suc k) (y ∷ ys) h = drop-rest m k ys (omega arith)
-
 -- a put in a part is a put in the whole
 pub put-inside : (a k at : ℕ) (vs xs : List ℕ) → at + length vs ≤ k → a + k ≤ length xs → put a (put at vs (part a k xs)) xs ≡ put (a + at) vs xs
 unfolding put part
@@ -125,7 +83,9 @@ put-inside a k at vs xs h g =
     let l : length (take k (drop a xs)) ≡ k = length-part a k xs g in
     let m : length (take at (take k (drop a xs)) ++ vs ++ drop n (take k (drop a xs))) ≡ k = length-put at vs (part a k xs) (omega arith) ∙ l in
     let e : at ≤ k = omega arith in
-    rw (m, ← drop-drop k a xs, take-take at k, take-add a at xs, add-assoc a at (length vs), ← drop-drop n a xs, ← drop-rest n k (drop a xs) h) (simp append-assoc)
+    let r : drop n (drop a xs) ≡ drop n (take k (drop a xs)) ++ drop k (drop a xs) =
+    ap (drop n) (sym (take-append-drop k (drop a xs))) ∙ drop-append-le n (take k (drop a xs)) (drop k (drop a xs)) (omega arith) in
+    rw (m, ← drop-drop k a xs, take-take at k, take-add a at xs, add-assoc a at (length vs), ← drop-drop n a xs, r) (simp append-assoc)
 
 -- what was lent comes back at its place; where it comes back with a put in it, the whole has that put
 pub lent : (a k : ℕ) (xs ys : List ℕ) → length ys ≡ k → putMid a k xs ys ≡ put a ys xs
@@ -136,21 +96,6 @@ pub lent-put : (a k at : ℕ) (vs xs ys : List ℕ) → at + length vs ≤ k →
 lent-put a k at vs xs ys h g e =
     let l : length (part a k xs) ≡ k = length-part a k xs g in
     lent a k xs ys (rw e (length-put at vs (part a k xs) (omega arith) ∙ l)) ∙ rw e (put-inside a k at vs xs h g)
-
--- two parts are equal by their elements
-ext-part : (from n : ℕ) (xs ys : List ℕ) → from + n ≤ length xs → from + n ≤ length ys → ((i : ℕ) → i < n → getD xs (from + i) 0 ≡ getD ys (from + i) 0) → part from n xs ≡ part from n ys
-ext-part from n xs ys h g e =
-    let l : length (part from n xs) ≡ n = length-part from n xs h in
-    let m : length (part from n ys) ≡ n = length-part from n ys g in
-    ext-getD 0 (part from n xs) (part from n ys) (l ∙ sym m)
-    (λ i k. let q : i < n = omega arith in getD-part from n i xs q ∙ e i q ∙ sym (getD-part from n i ys q))
-
--- a part beside a put is as it was
-pub part-below : (from n at : ℕ) (vs xs : List ℕ) → from + n ≤ at → at + length vs ≤ length xs → part from n (put at vs xs) ≡ part from n xs
-part-below from n at vs xs h g = ext-part from n (put at vs xs) xs (rw length-put (omega arith)) (omega arith) (λ i l. below-put at (from + i) vs xs (omega arith) (omega arith))
-
-pub part-above : (from n at : ℕ) (vs xs : List ℕ) → at + length vs ≤ from → from + n ≤ length xs → part from n (put at vs xs) ≡ part from n xs
-part-above from n at vs xs h g = ext-part from n (put at vs xs) xs (rw (length-put at vs xs (omega arith)) (omega arith)) (omega arith) (λ i l. above-put at (from + i) vs xs (omega arith) (omega arith))
 
 -- a put behind a put is one put
 pub put-next : (at : ℕ) (us vs xs : List ℕ) → at + length us + length vs ≤ length xs → put (at + length us) vs (put at us xs) ≡ put at (us ++ vs) xs
@@ -168,16 +113,15 @@ pub part-two : (from m n : ℕ) (xs : List ℕ) → part from (m + n) xs ≡ par
 unfolding part
 part-two from m n xs = rw (take-add m n (drop from xs), drop-drop)
 
--- a put over the whole
-pub put-all : (vs xs : List ℕ) → length vs ≡ length xs → put 0 vs xs ≡ vs
+-- a put over the front, and over the whole
+pub put-front : (vs xs : List ℕ) → put 0 vs xs ≡ vs ++ drop (length vs) xs
 unfolding put
-put-all vs xs h =
-    let l : length xs ≤ 0 + length vs = omega arith in
-    rw drop-of-length-le (append-nil vs)
+put-front vs xs = rw zero-add
 
--- the same, of a slice
-pub put-whole : (vs xs zs : List ℕ) → zs ≡ put 0 vs xs → length vs ≡ length xs → zs ≡ vs
-put-whole vs xs zs e h = e ∙ put-all vs xs h
+pub put-all : (vs xs : List ℕ) → length vs ≡ length xs → put 0 vs xs ≡ vs
+put-all vs xs h =
+    let l : length xs ≤ length vs = omega arith in
+    put-front vs xs ∙ rw drop-of-length-le (append-nil vs)
 
 -- a store is a put of one byte
 pub put-one : (at a : ℕ) (xs : List ℕ) → at < length xs → set xs at a ≡ put at (a ∷ []) xs
@@ -214,20 +158,12 @@ pub part-rest : (at : ℕ) (xs : List ℕ) → part at (length xs - at) xs ≡ d
 unfolding part
 part-rest at xs = take-all (length xs - at) (drop at xs) (simp length-drop (omega arith))
 
-pub part-whole : (n : ℕ) (xs : List ℕ) → length xs ≡ n → part 0 n xs ≡ xs
+pub part-front : (n : ℕ) (xs : List ℕ) → part 0 n xs ≡ take n xs
 unfolding part
-part-whole n xs h = take-all n xs (omega arith)
+part-front n xs = refl
 
--- the two halves of a part are parts of the whole
-pub part-halves : (at m n : ℕ) (xs : List ℕ) → at + (m + n) ≤ length xs
-    → (part 0 m (part at (m + n) xs) ≡ part at m xs) × (part m n (part at (m + n) xs) ≡ part (at + m) n xs)
-part-halves at m n xs h =
-    let l : length (part at m xs) ≡ m = length-part at m xs (omega arith) in
-    let k : length (part (at + m) n xs) ≡ n = length-part (at + m) n xs (omega arith) in
-    rw (part-two at m n xs) (
-      rw l at (part-seam [] (part at m xs) (part (at + m) n xs)),
-      rw (append-nil, l, k) at (part-seam (part at m xs) (part (at + m) n xs) []),
-    )
+pub part-whole : (n : ℕ) (xs : List ℕ) → length xs ≡ n → part 0 n xs ≡ xs
+part-whole n xs h = part-front n xs ∙ take-all n xs (omega arith)
 
 -- a part of a beginning
 pub part-take : (from n k : ℕ) (xs : List ℕ) → from + n ≤ k → part from n (take k xs) ≡ part from n xs
@@ -236,3 +172,12 @@ part-take zero n k xs h = take-take n k xs (omega arith)
 part-take (suc from) n zero xs h = absurd (omega arith)
 part-take (suc from) n (suc k) [] h = refl
 part-take (suc from) n (suc k) (x ∷ xs) h = part-take from n k xs (omega arith)
+
+-- a part of a part
+pub part-inside : (at m from n : ℕ) (xs : List ℕ) → from + n ≤ m → part from n (part at m xs) ≡ part (at + from) n xs
+unfolding part
+part-inside at m from n xs h = part-take from n m (drop at xs) h ∙ part-drop at from n xs
+
+-- a rest behind a seam that is known by a number
+pub drop-past : (xs ys : List ℕ) (k n : ℕ) → length xs ≡ k → drop (k + n) (xs ++ ys) ≡ drop n ys
+drop-past xs ys k n e = rw (← e) (drop-append-add xs ys n)

@@ -1,20 +1,15 @@
--- More laws of `part` and `put`: at a seam, of what is put before a put, and of bytes that make room or close a gap. Assumes nothing.
-use mathlib.Core.Path.{_≡_, refl, sym, ap, _∙_}
-use mathlib.Core.List.{List, _++_, append-assoc}
-use Prim.Native.Nat.{ℕ, _+_, _-_, _≤_}
+-- More laws of `part` and `put`: of what is put before a put, of one byte more, and of bytes that make room or close a gap. Assumes
+-- nothing.
+use mathlib.Core.Path.{_≡_, sym, ap, _∙_}
+use mathlib.Core.List.{List, [], _∷_, _++_, append-assoc}
+use Prim.Native.Nat.{ℕ, _+_, _-_, _≤_, _<_}
 use native.Mathlib.Nat.{add-assoc}
+use native.Mathlib.Numerals.{add-one}
 use native.Mathlib.Omega.{arith}
-use lib.ListN.{length, take, length-append, length-replicate, replicate-append-replicate}
-use lib.Seq.{length-take-le, take-append-le, take-take, drop-at}
+use lib.ListN.{length, take, drop, getD, set, length-append, length-drop, length-replicate, replicate-append-replicate}
+use lib.Seq.{take-suc, drop-cons, length-take-le, take-append-le, take-take, drop-at}
 use Rattle.octets.specs.Octets.{part, put, zeros, filled}
-use Rattle.octets.proofs.PartLaws.{put-seam, part-seam, length-part, put-next}
-
--- at a seam that is known by a number
-pub put-at : (p q r vs : List ℕ) (at : ℕ) → length p ≡ at → length vs ≡ length q → put at vs (p ++ q ++ r) ≡ p ++ vs ++ r
-put-at p q r vs at e h = rw (← e) (put-seam p q r vs h)
-
-pub part-at : (p q r : List ℕ) (at n : ℕ) → length p ≡ at → length q ≡ n → part at n (p ++ q ++ r) ≡ q
-part-at p q r at n e f = rw (← e, ← f) (part-seam p q r)
+use Rattle.octets.proofs.PartLaws.{put-seam, part-seam, length-put, length-part, put-next, put-one}
 
 -- a put right before a put is one put
 pub put-ahead : (at : ℕ) (us vs xs : List ℕ) → at + length us ≤ length xs → put at us (put (at + length us) vs xs) ≡ put at (us ++ vs) xs
@@ -25,6 +20,24 @@ put-ahead at us vs xs h =
     let m : at ≤ length (take n xs) = omega arith in
     let o : at ≤ n = omega arith in
     rw (append-assoc (take n xs), take-append-le, take-take, drop-at, length-append, ← add-assoc) (simp append-assoc)
+
+-- one more byte behind a put, and one more before it
+pub put-more : (at j : ℕ) (vs xs : List ℕ) → j < length vs → at + length vs ≤ length xs
+    → set (put at (take j vs) xs) (at + j) (getD vs j 0) ≡ put at (take (j + 1) vs) xs
+put-more at j vs xs h k =
+    let l : length (take j vs) ≡ j = length-take-le j vs (omega arith) in
+    put-one (at + j) (getD vs j 0) (put at (take j vs) xs) (rw (length-put at (take j vs) xs (omega arith)) (omega arith))
+    ∙ rw l at (put-next at (take j vs) (getD vs j 0 ∷ []) xs (omega arith))
+    ∙ rw (add-one, take-suc vs j 0 h)
+
+pub put-less : (at j : ℕ) (vs xs : List ℕ) → j < length vs → at + length vs ≤ length xs
+    → set (put (at + (j + 1)) (drop (j + 1) vs) xs) (at + j) (getD vs j 0) ≡ put (at + j) (drop j vs) xs
+put-less at j vs xs h k =
+    let d : List ℕ = drop (j + 1) vs in
+    let l : length d ≡ length vs - (j + 1) = length-drop (j + 1) vs in
+    put-one (at + j) (getD vs j 0) (put (at + (j + 1)) d xs) (rw (length-put (at + (j + 1)) d xs (omega arith)) (omega arith))
+    ∙ rw (add-assoc at j 1) at (put-ahead (at + j) (getD vs j 0 ∷ []) d xs (omega arith))
+    ∙ rw (add-one, drop-cons vs j 0 h)
 
 -- ---- of slices: n bytes make room for us and us is put there, n bytes close a gap of k and zeros are put behind them
 
@@ -72,4 +85,4 @@ module _ (n : ℕ) (a v b : List ℕ) (fits : length a + length v + length b ≤
   take-out =
       let c : List ℕ = zeros (n - length (a ++ v ++ b)) in
       let e : a ++ v ++ b ++ c ≡ a ++ (v ++ b) ++ c = simp append-assoc in
-      rw (part-at (a ++ v) b c (length a + length v) (length b) (length-append a v) refl, e, put-seam a (v ++ b) c (b ++ zeros (length v)) (sym even), narrow) (simp append-assoc)
+      rw (rw (length-append a v) at (part-seam (a ++ v) b c), e, put-seam a (v ++ b) c (b ++ zeros (length v)) (sym even), narrow) (simp append-assoc)

@@ -1,11 +1,19 @@
--- What is known where all tests of a table hold, or none. Assumes nothing.
+-- What is known of tests that hold or fail, and of tables of them: where all hold, or none. Assumes nothing.
 use mathlib.Core.Path.{_≡_, refl}
 use mathlib.Core.Bool.{Bool, true, false, cond, not, _&&_, _||_}
 use mathlib.Core.List.{List, [], _∷_}
 use Prim.Native.Nat.{ℕ, _<_}
+use native.Mathlib.Omega.{arith}
 use lib.Dec.{T, eqb, ltb}
 use borrow.Author.Tests.{ltb-true}
 use Rattle.octets.specs.Tests.{and, all, Row, firstOf}
+
+pub refuted : (b : Bool) → (b ≡ true → ⊥) → b ≡ false
+refuted true h = absurd (h refl)
+refuted false h = refl
+
+pub contrary : false ≡ true → ⊥
+contrary e = let z : _≡_ {A = ℕ} 0 1 = cc in omega arith
 
 pub both : (a b : Bool) → (a && b) ≡ true → (a ≡ true) × (b ≡ true)
 both true b e = (refl, e)
@@ -69,6 +77,10 @@ none-holds (r ∷ rs) t e =
     let u = T-both (not (eqb (r .number) 0)) (named rs) t in
     let p = passed (r .when) (r .number) (firstOf rs) (u .0) e in
     (p .0, none-holds rs (u .1) (p .1))
+
+pub none-first : (rs : List Row) → None rs → firstOf rs ≡ 0
+none-first [] n = refl
+none-first (r ∷ rs) n = rw (n .0) (none-first rs (n .1))
 
 -- each number of the table is below m, so the first one is
 pub first-below : (m : ℕ) (rs : List Row) → 0 < m → T (each (λ n. ltb n m) rs) → firstOf rs < m

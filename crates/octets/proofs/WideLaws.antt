@@ -1,22 +1,23 @@
 -- The order of keys by numbers: of equally many bytes by their big-endian number, and of keys with zeros behind them by those and
--- then by their lengths. Assumes nothing.
-use mathlib.Core.Path.{_≡_, refl, sym, ap, _∙_}
-use mathlib.Core.Bool.{Bool, _&&_, _||_, and-assoc}
+-- then by their lengths; a key held as such numbers. Assumes nothing.
+use mathlib.Core.Path.{_≡_, refl, sym, ap, ap₂, _∙_}
+use mathlib.Core.Bool.{Bool, true, false, _&&_, _||_, and-assoc, and-true, and-false, or-false}
 use mathlib.Core.List.{List, [], _∷_, _++_}
 use Prim.Native.Nat.{ℕ, zero, suc, _+_, _-_, _*_, _≤_, _<_}
 use native.Mathlib.Omega.{arith}
 use lib.Dec.{eqb, ltb, leb·suc-suc}
-use lib.ListN.{length, length-append, length-replicate}
+use lib.ListN.{length, take, drop, length-append, length-replicate}
 use borrow.Author.Tests.{lt-ltb, le-ltb, eq-eqb, ne-eqb}
 use Rattle.octets.specs.declared.keys.Order.{Order}
 use Rattle.octets.specs.declared.keys.Order.the-variants.{Less, Equal, Greater}
 use Rattle.octets.specs.declared.keys.Wide.{Wide}
-use Rattle.octets.specs.Octets.{part, zeros, filled}
+use Rattle.octets.specs.Octets.{part, zeros, filled, allZero}
 use Rattle.octets.specs.Keys.{Key, order, orderN, then, isLess, isEqual, big, bigFrom, wideOf, orderWide}
 use Rattle.octets.proofs.PartLaws.{length-part, part-two, part-whole}
 use Rattle.octets.proofs.NumberLaws.{Bytes, bytes-part}
 use Rattle.octets.proofs.ZeroLaws.{length-filled}
-use Rattle.octets.proofs.OrderLaws.{Tri, less, equal, more, tri, orderN-less, orderN-greater, orderN-same, then-assoc, then-equal, order-self}
+use Rattle.octets.proofs.PadLaws.{part-filled, bytes-filled}
+use Rattle.octets.proofs.OrderLaws.{Tri, less, equal, more, tri, orderN-less, orderN-greater, orderN-same, flip, then-assoc, then-equal, flip-then, order-self, order-flip}
 
 -- ---- one byte more
 
@@ -83,11 +84,7 @@ zeros-first (suc i) (zero ∷ zs) e = zeros-first i zs (omega arith)
 zeros-first (suc i) (suc z ∷ zs) e = rw (orderN-less 0 (suc z) (omega arith))
 
 zeros-last : (i : ℕ) (zs : List ℕ) → length zs ≡ i → then (order zs (zeros i)) Greater ≡ Greater
-zeros-last zero [] e = refl
-zeros-last zero (z ∷ zs) e = absurd (omega arith)
-zeros-last (suc i) [] e = absurd (omega arith)
-zeros-last (suc i) (zero ∷ zs) e = zeros-last i zs (omega arith)
-zeros-last (suc i) (suc z ∷ zs) e = rw (orderN-greater (suc z) 0 (omega arith))
+zeros-last i zs e = rw (order-flip (zeros i) zs) (flip-then (order (zeros i) zs) Less ∙ ap flip (zeros-first i zs e))
 
 order-padded : (xs ys : List ℕ) (i j : ℕ) → length xs + i ≡ length ys + j
     → then (order (xs ++ zeros i) (ys ++ zeros j)) (orderN (length xs) (length ys)) ≡ order xs ys
@@ -102,56 +99,75 @@ order-padded (x ∷ xs) (y ∷ ys) i j e =
     then-assoc (orderN x y) (order (xs ++ zeros i) (ys ++ zeros j)) (orderN (suc (length xs)) (suc (length ys)))
     ∙ rw (orderN-suc (length xs) (length ys)) (ap (then (orderN x y)) (order-padded xs ys i j (omega arith)))
 
--- 16 bytes by two numbers
-order-16 : (xs ys : List ℕ) (a b : ℕ) → Bytes xs → Bytes ys → a + 16 ≤ length xs → b + 16 ≤ length ys
-    → order (part a 16 xs) (part b 16 ys) ≡ then (orderN (big (part a 8 xs)) (big (part b 8 ys))) (orderN (big (part (a + 8) 8 xs)) (big (part (b + 8) 8 ys)))
-order-16 xs ys a b hx hy ha hb =
-    let la : length (part a 8 xs) ≡ 8 = length-part a 8 xs (omega arith) in
-    let lb : length (part b 8 ys) ≡ 8 = length-part b 8 ys (omega arith) in
-    let lc : length (part (a + 8) 8 xs) ≡ 8 = length-part (a + 8) 8 xs (omega arith) in
-    let ld : length (part (b + 8) 8 ys) ≡ 8 = length-part (b + 8) 8 ys (omega arith) in
-    rw (
-      part-two a 8 8 xs,
-      part-two b 8 8 ys,
-      order-append (part a 8 xs) (part b 8 ys) (part (a + 8) 8 xs) (part (b + 8) 8 ys) (la ∙ sym lb),
-      order-big (part a 8 xs) (part b 8 ys) (bytes-part a 8 xs hx (omega arith)) (bytes-part b 8 ys hy (omega arith)) (la ∙ sym lb),
-      order-big (part (a + 8) 8 xs) (part (b + 8) 8 ys) (bytes-part (a + 8) 8 xs hx (omega arith)) (bytes-part (b + 8) 8 ys hy (omega arith)) (lc ∙ sym ld),
-    )
+-- sixteen bytes by two numbers
+pub halves : (xs : List ℕ) → length xs ≡ 16 → xs ≡ part 0 8 xs ++ part 8 8 xs
+halves xs l = sym (part-whole 16 xs l) ∙ part-two 0 8 8 xs
+
+order-16 : (xs ys : List ℕ) → Bytes xs → Bytes ys → length xs ≡ 16 → length ys ≡ 16
+    → order xs ys ≡ then (orderN (big (part 0 8 xs)) (big (part 0 8 ys))) (orderN (big (part 8 8 xs)) (big (part 8 8 ys)))
+order-16 xs ys bx by lx ly =
+    ap₂ order (halves xs lx) (halves ys ly)
+    ∙ order-append (part 0 8 xs) (part 0 8 ys) (part 8 8 xs) (part 8 8 ys) (even 0 (omega arith))
+    ∙ ap₂ then (eight 0 (omega arith)) (eight 8 (omega arith))
+  where
+    even : (at : ℕ) → at + 8 ≤ 16 → length (part at 8 xs) ≡ length (part at 8 ys)
+    even at h = length-part at 8 xs (omega arith) ∙ sym (length-part at 8 ys (omega arith))
+
+    eight : (at : ℕ) → at + 8 ≤ 16 → order (part at 8 xs) (part at 8 ys) ≡ orderN (big (part at 8 xs)) (big (part at 8 ys))
+    eight at h = order-big (part at 8 xs) (part at 8 ys) (bytes-part at 8 xs bx (omega arith)) (bytes-part at 8 ys by (omega arith)) (even at h)
 
 -- a key in its sixteen bytes is its two numbers
-pub order-wide : (j k : Key) → Bytes (filled 16 j) → Bytes (filled 16 k) → length j ≤ 16 → length k ≤ 16
+order-wide : (j k : Key) → Bytes (filled 16 j) → Bytes (filled 16 k) → length j ≤ 16 → length k ≤ 16
     → orderWide (wideOf (filled 16 j) (length j)) (wideOf (filled 16 k) (length k)) ≡ order j k
 unfolding wideOf
 order-wide j k bj bk hj hk =
-    let lj : length (filled 16 j) ≡ 16 = length-filled 16 j hj in
-    let lk : length (filled 16 k) ≡ 16 = length-filled 16 k hk in
-    let e = order-16 (filled 16 j) (filled 16 k) 0 0 bj bk (omega arith) (omega arith) in
     let a = filled 16 j in
     let b = filled 16 k in
     sym (then-assoc (orderN (big (part 0 8 a)) (big (part 0 8 b))) (orderN (big (part 8 8 a)) (big (part 8 8 b))) (orderN (length j) (length k)))
-    ∙ ap (λ (o : Order). then o (orderN (length j) (length k))) (sym (rw (part-whole 16 (filled 16 j) lj, part-whole 16 (filled 16 k) lk) at e))
+    ∙ ap (λ (o : Order). then o (orderN (length j) (length k))) (sym (order-16 a b bj bk (length-filled 16 j hj) (length-filled 16 k hk)))
     ∙ order-padded j k (16 - length j) (16 - length k) (omega arith)
 
--- what the tests on the numbers say
+-- ---- a key in its sixteen bytes, as code holds it
+
+-- w is the key k
+pub record Widened (w : Wide) (k : Key) : Type 0 where
+  pub is : w ≡ wideOf (filled 16 k) (length k)
+  pub short : length k ≤ 16
+  pub bytes : Bytes (filled 16 k)
+
+pub widened-order : {w x : Wide} {j k : Key} → Widened w j → Widened x k → orderWide w x ≡ order j k
+widened-order {w} {x} {j} {k} a b = rw (a .is, b .is) (order-wide j k (a .bytes) (b .bytes) (a .short) (b .short))
+
+pub widened-none : Widened (record { high = 0; low = 0; len = 0 }) []
+unfolding wideOf big part
+widened-none = record { is = refl; short = omega arith; bytes = bytes-filled 16 [] (λ i l. absurd (omega arith)) }
+
+-- sixteen bytes with zeros behind the first n
+pub widened-part : (at n : ℕ) (xs : List ℕ) → Bytes xs → at + 16 ≤ length xs → n ≤ 16 → allZero (drop n (part at 16 xs)) ≡ true
+    → Widened (wideOf (part at 16 xs) n) (part at n xs)
+widened-part at n xs b h l z =
+    let f = part-filled at n 16 xs h l z in
+    let m : length (part at n xs) ≡ n = length-part at n xs (omega arith) in
+    record { is = ap₂ wideOf f (sym m); short = omega arith; bytes = rw f at (bytes-part at 16 xs b h) }
+
+-- the first n bytes of sixteen: those past them may be anything
+pub widened-take : (n : ℕ) (xs : List ℕ) (w : Wide) → Bytes xs → length xs ≡ 16 → n ≤ 16 → w ≡ wideOf (filled 16 (take n xs)) n → Widened w (take n xs)
+unfolding part
+widened-take n xs w b h l e =
+    let m : length (take n xs) ≡ n = length-part 0 n xs (omega arith) in
+    record { is = e ∙ ap (wideOf (filled 16 (take n xs))) (sym m); short = omega arith; bytes = bytes-filled 16 (take n xs) (bytes-part 0 n xs b (omega arith)) }
+
+-- ---- what the tests on the numbers say
+
 less-last : (m n : ℕ) → ltb m n ≡ isLess (orderN m n)
-less-last m n = by (tri m n)
-  where
-    by : Tri m n → ltb m n ≡ isLess (orderN m n)
-    by (less h) = rw (orderN-less m n h, lt-ltb m n h)
-    by (equal h) = rw (h, orderN-same n, le-ltb n n (omega arith))
-    by (more h) = rw (orderN-greater m n h, le-ltb m n (omega arith))
+less-last m n = rw (and-false, or-false, then-equal) at (less-then m n false Equal refl)
 
 pub less-wide : (a b : Wide)
     → (ltb (a .high) (b .high) || eqb (a .high) (b .high) && (ltb (a .low) (b .low) || eqb (a .low) (b .low) && ltb (a .len) (b .len))) ≡ isLess (orderWide a b)
 less-wide a b = less-then (a .high) (b .high) _ _ (less-then (a .low) (b .low) _ _ (less-last (a .len) (b .len)))
 
 equal-last : (m n : ℕ) → eqb m n ≡ isEqual (orderN m n)
-equal-last m n = by (tri m n)
-  where
-    by : Tri m n → eqb m n ≡ isEqual (orderN m n)
-    by (less h) = rw (orderN-less m n h, ne-eqb m n (λ q. omega arith))
-    by (equal h) = rw (h, orderN-same n, eq-eqb n n refl)
-    by (more h) = rw (orderN-greater m n h, ne-eqb m n (λ q. omega arith))
+equal-last m n = rw (and-true, then-equal) at (equal-then m n true Equal refl)
 
 pub equal-wide : (a b : Wide) → (eqb (a .high) (b .high) && eqb (a .low) (b .low) && eqb (a .len) (b .len)) ≡ isEqual (orderWide a b)
 equal-wide a b =

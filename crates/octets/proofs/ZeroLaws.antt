@@ -1,9 +1,9 @@
 -- The laws of `allZero`, `same` and `filled`. Assumes nothing.
-use mathlib.Core.Path.{_≡_, refl}
-use mathlib.Core.Bool.{Bool, true, _&&_}
-use mathlib.Core.List.{List, [], _∷_}
+use mathlib.Core.Path.{_≡_, refl, sym, _∙_}
+use mathlib.Core.Bool.{Bool, true, _&&_, and-assoc}
+use mathlib.Core.List.{List, [], _∷_, _++_}
 use Prim.Native.Nat.{suc, zero, ℕ, _-_, _≤_}
-use native.Mathlib.Nat.{zero-add, sub-zero, zero-sub, suc-sub-suc}
+use native.Mathlib.Nat.{sub-zero, zero-sub, suc-sub-suc}
 use native.Mathlib.Omega.{arith}
 use lib.Bits.{bitOr, or-zero-l, or-add-and, and-le-r}
 use lib.Dec.{eqb}
@@ -11,6 +11,7 @@ use lib.ListN.{length, drop, length-append, length-replicate}
 use borrow.Author.Tests.{eqb-true, eq-eqb, ne-eqb}
 use Rattle.octets.specs.Octets.{put, zeros, filled, allZero, same}
 use Rattle.octets.proofs.TestLaws.{both}
+use Rattle.octets.proofs.PartLaws.{put-front}
 
 pub zeros-all : (n : ℕ) → allZero (zeros n) ≡ true
 zeros-all zero = refl
@@ -22,6 +23,10 @@ all-zeros (x ∷ xs) e =
     let b = both (eqb x 0) (allZero xs) e in
     cc (eqb-true x 0 (b .0), all-zeros xs (b .1))
 
+pub zero-append : (xs ys : List ℕ) → allZero (xs ++ ys) ≡ (allZero xs && allZero ys)
+zero-append [] ys = refl
+zero-append (x ∷ xs) ys = rw (zero-append xs ys) (sym (and-assoc (eqb x 0) (allZero xs) (allZero ys)))
+
 -- a byte joined to those seen is zero exactly if both are
 pub or-zero : (a x : ℕ) (b : Bool) → (eqb (bitOr a x) 0 && b) ≡ (eqb a 0 && (eqb x 0 && b))
 or-zero zero x b = rw (or-zero-l x)
@@ -31,6 +36,9 @@ or-zero (suc a) x b =
 pub same-self : (xs : List ℕ) → same xs xs ≡ true
 same-self [] = refl
 same-self (x ∷ xs) = rw (eq-eqb x x refl, same-self xs)
+
+pub true-same : (xs ys : List ℕ) → xs ≡ ys → same xs ys ≡ true
+true-same xs ys e = rw e (same-self ys)
 
 pub same-true : (xs ys : List ℕ) → same xs ys ≡ true → xs ≡ ys
 same-true [] [] e = refl
@@ -50,5 +58,4 @@ drop-zeros (suc n) (suc k) = rw suc-sub-suc (drop-zeros n k)
 
 -- what is put at the front of zeros has zeros behind it
 pub put-zeros : (n : ℕ) (xs : List ℕ) → put 0 xs (zeros n) ≡ filled n xs
-unfolding put
-put-zeros n xs = rw (zero-add, drop-zeros)
+put-zeros n xs = put-front xs (zeros n) ∙ rw drop-zeros

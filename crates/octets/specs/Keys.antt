@@ -1,8 +1,9 @@
--- Keys are lists of bytes. They compare byte by byte from byte 0; a proper beginning of a key comes before it. Assumes nothing.
-use Prim.Native.Nat.{ℕ, _+_, _*_}
+-- Keys are lists of bytes. They compare byte by byte from byte 0; a proper beginning of a key comes before it. A key in sixteen
+-- bytes is also two numbers and a length. Assumes nothing.
+use Prim.Native.Nat.{ℕ, _+_, _-_, _*_, _%_, _^_}
 use mathlib.Core.Bool.{Bool, true, false, cond, _&&_}
 use mathlib.Core.List.{List, [], _∷_}
-use lib.Dec.{ltb}
+use lib.Dec.{ltb, eqb}
 use Rattle.octets.specs.Octets.{part}
 use Rattle.octets.specs.declared.keys.Order.{Order}
 use Rattle.octets.specs.declared.keys.Order.the-variants.{Less, Equal, Greater}
@@ -70,3 +71,9 @@ wideOf xs n = record { high = big (part 0 8 xs); low = big (part 8 8 xs); len = 
 
 abbrev pub orderWide : Wide → Wide → Order
 orderWide a b = then (orderN (a .high) (b .high)) (then (orderN (a .low) (b .low)) (orderN (a .len) (b .len)))
+
+-- zeros stand behind the key, by what shifts leave of its two numbers
+unfoldable pub clearWide : Wide → Bool
+clearWide w =
+    cond (ltb (w .len) 8) (eqb (w .low) 0 && eqb (w .high * 2 ^ (8 * w .len) % 2 ^ 64) 0)
+    (cond (ltb (w .len) 16) (eqb (w .low * 2 ^ (8 * (w .len - 8)) % 2 ^ 64) 0) true)

@@ -1,21 +1,19 @@
 // The order of keys: of parts of slices, and of keys that stand in sixteen bytes with their length beside them.
 use crate::runs::copy_at;
 use crate::wide::read_big;
-use crate::wide::read64;
 ghost use mathlib.Core.Path.{_≡_};
 ghost use Prim.Native.Nat.{_+_, _≤_};
-ghost use lib.ListN.{length, take, drop};
-ghost use Rattle.octets.specs.Octets.{part, filled, allZero};
-ghost use Rattle.octets.specs.Keys.{order, isLess, isEqual, wideOf, orderWide};
+ghost use lib.ListN.{length, take};
+ghost use Rattle.octets.specs.Octets.{part, filled};
+ghost use Rattle.octets.specs.Keys.{order, isLess, isEqual, wideOf, orderWide, clearWide};
 
-// How one key stands to another.
 pub enum Order {
     Less,
     Equal,
     Greater,
 }
 
-// Byte by byte; a proper beginning of a key comes before it.
+// "Keys compare byte by byte from byte 0; a proper beginning of a key comes before it."
 pub fn compare(a: &[u8], b: &[u8]) -> Order
     ensures { λ r. ⌜ r ≡ order (now (a .entry)) (now (b .entry)) ⌝ }
 {
@@ -40,7 +38,7 @@ pub fn compare(a: &[u8], b: &[u8]) -> Order
 }
 
 // A key that stands in sixteen bytes with zeros behind it, as two numbers with the highest byte first, and its length. Such keys
-// stand in the order of their numbers (`order-wide`), so that they are compared with no loop.
+// stand in the order of their numbers (`widened-order`), so that they are compared with no loop.
 pub struct Wide {
     pub high: u64,
     pub low: u64,
@@ -71,7 +69,7 @@ pub fn equal(a: Wide, b: Wide) -> bool
     (a.high == b.high) & (a.low == b.low) & (a.len == b.len)
 }
 
-// The bytes past the key's length cleared.
+// "Key bytes past the key length are not looked at": with zeros in their place, equal keys have equal numbers.
 pub fn pad(key: [u8; 16], len: usize) -> [u8; 16]
     requires { ⌜ len ≤ 16 ⌝ }
     ensures { λ r. ⌜ r ≡ filled 16 (take len key) ⌝ }
@@ -81,20 +79,16 @@ pub fn pad(key: [u8; 16], len: usize) -> [u8; 16]
     padded
 }
 
-// Whether zeros stand behind a key of n bytes in its sixteen.
-pub fn is_padded(s: &[u8], at: usize, n: usize) -> bool
-    requires { ⌜ (at + 16 ≤ length (now s)) × (n ≤ 16) ⌝ }
-    ensures { λ r. ⌜ r ≡ allZero (drop n (part at 16 (now (s .entry)))) ⌝ }
+// Whether zeros stand behind the key, by the numbers that are in hand, so that no byte is read again: the key's own bytes are
+// shifted out.
+pub fn is_clear(w: Wide) -> bool
+    ensures { λ r. ⌜ r ≡ clearWide w ⌝ }
 {
-    let high = read64(s, at + 8);
-    if n < 8 {
-        if high != 0 {
-            return false;
-        }
-        return read64(s, at) >> (8 * n) == 0;
+    if w.len < 8 {
+        return (w.low == 0) & (w.high << (8 * w.len) == 0);
     }
-    if n == 16 {
-        return true;
+    if w.len < 16 {
+        return w.low << (8 * (w.len - 8)) == 0;
     }
-    high >> (8 * (n - 8)) == 0
+    true
 }

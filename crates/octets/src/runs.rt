@@ -4,7 +4,6 @@ ghost use Prim.Native.Nat.{_+_, _≤_};
 ghost use lib.ListN.{length, replicate};
 ghost use Rattle.octets.specs.Octets.{part, put, allZero};
 
-// All of src over the front of dst.
 pub fn copy(src: &[u8], dst: &mut [u8])
     requires { ⌜ length (now src) ≤ length (now dst) ⌝ }
     ensures { λ _. ⌜ now (dst .exit) ≡ put 0 (now (src .entry)) (now (dst .entry)) ⌝ }
@@ -16,7 +15,6 @@ pub fn copy(src: &[u8], dst: &mut [u8])
     }
 }
 
-// All of src over dst from an index on.
 pub fn copy_at(src: &[u8], dst: &mut [u8], at: usize)
     requires { ⌜ at + length (now src) ≤ length (now dst) ⌝ }
     ensures { λ _. ⌜ now (dst .exit) ≡ put at (now (src .entry)) (now (dst .entry)) ⌝ }
@@ -24,7 +22,7 @@ pub fn copy_at(src: &[u8], dst: &mut [u8], at: usize)
     copy(src, &mut dst[at..]);
 }
 
-// n bytes moved within a slice. The two places may overlap: up goes from the last byte on, down from the first.
+// The two places may overlap: up goes from the last byte on, down from the first.
 pub fn move_up(s: &mut [u8], from: usize, n: usize, to: usize)
     requires { ⌜ (from ≤ to) × (to + n ≤ length (now s)) ⌝ }
     ensures { λ _. ⌜ now (s .exit) ≡ put to (part from n (now (s .entry))) (now (s .entry)) ⌝ }
@@ -47,7 +45,7 @@ pub fn move_down(s: &mut [u8], from: usize, n: usize, to: usize)
     }
 }
 
-// n zeros from an index on.
+// "Room that holds nothing is zero."
 pub fn clear(s: &mut [u8], at: usize, n: usize)
     requires { ⌜ at + n ≤ length (now s) ⌝ }
     ensures { λ _. ⌜ now (s .exit) ≡ put at (replicate n 0) (now (s .entry)) ⌝ }

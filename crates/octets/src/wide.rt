@@ -1,24 +1,9 @@
-// Eight bytes as one number, for the order of keys and for zeros behind a key.
+// Eight bytes as one number, for the order of keys.
 ghost use mathlib.Core.Path.{_≡_};
 ghost use Prim.Native.Nat.{_+_, _*_, _≤_};
 ghost use lib.ListN.{length};
-ghost use Rattle.octets.specs.Octets.{part, number};
+ghost use Rattle.octets.specs.Octets.{part};
 ghost use Rattle.octets.specs.Keys.{big};
-
-fn number64(a: u8, b: u8, c: u8, d: u8, e: u8, f: u8, g: u8, h: u8) -> u64
-    ensures { λ r. ⌜ r ≡ a + 256 * (b + 256 * (c + 256 * (d + 256 * (e + 256 * (f + 256 * (g + 256 * h)))))) ⌝ }
-{
-    a as u64
-        + 256
-            * (b as u64
-                + 256
-                    * (c as u64
-                        + 256
-                            * (d as u64
-                                + 256
-                                    * (e as u64
-                                        + 256 * (f as u64 + 256 * (g as u64 + 256 * (h as u64)))))))
-}
 
 fn big64(a: u8, b: u8, c: u8, d: u8, e: u8, f: u8, g: u8, h: u8) -> u64
     ensures { λ r. ⌜ r ≡ ((((((a * 256 + b) * 256 + c) * 256 + d) * 256 + e) * 256 + f) * 256 + g) * 256 + h ⌝ }
@@ -29,23 +14,6 @@ fn big64(a: u8, b: u8, c: u8, d: u8, e: u8, f: u8, g: u8, h: u8) -> u64
         + g as u64)
         * 256
         + h as u64
-}
-
-// The lowest byte first.
-pub fn read64(s: &[u8], at: usize) -> u64
-    requires { ⌜ at + 8 ≤ length (now s) ⌝ }
-    ensures { λ r. ⌜ r ≡ number (part at 8 (now (s .entry))) ⌝ }
-{
-    number64(
-        s[at],
-        s[at + 1],
-        s[at + 2],
-        s[at + 3],
-        s[at + 4],
-        s[at + 5],
-        s[at + 6],
-        s[at + 7],
-    )
 }
 
 // The highest byte first: such numbers stand in the order of the bytes.

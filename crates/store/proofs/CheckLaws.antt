@@ -1,26 +1,25 @@
 -- Legal memory by its parts: the head, the records part and the values part. Assumes nothing.
 use mathlib.Core.Path.{_≡_, refl, sym, ap, ap₂, _∙_}
 use mathlib.Core.Bool.{Bool, true, false, cond}
-use mathlib.Core.List.{List, _++_}
+use mathlib.Core.List.{List, [], _++_}
 use Prim.Native.Nat.{ℕ, _+_, _*_, _≤_}
 use native.Mathlib.Omega.{arith}
 use lib.ListN.{length, take, drop, length-take}
 use lib.Seq.{take-add, length-take-le, take-at, drop-at}
 use Rattle.octets.specs.Octets.{part, number, zeros, allZero}
-use Rattle.octets.proofs.PartLaws.{length-part, part-two}
-use Rattle.octets.proofs.NumberLaws.{Bytes}
+use Rattle.octets.proofs.PartLaws.{length-part, part-two, part-front}
+use Rattle.octets.proofs.NumberLaws.{Bytes, bytes-in}
 use Rattle.octets.proofs.TestLaws.{all-true, true-all}
-use Rattle.octets.proofs.ZeroLaws.{all-zeros, same-true}
+use Rattle.octets.proofs.ZeroLaws.{all-zeros, true-same, same-true}
 use Rattle.store.specs.declared.heads.Head.{Head}
 use Rattle.store.specs.Formats.{needed}
-use Rattle.store.specs.Maps.{Pair}
 use Rattle.store.specs.Space.{Space}
 use Rattle.store.specs.Image.{headOf, recordsPart, valuesPart, directoryOf, valuesOf, pairsIn, spaceOf, legal}
-use Rattle.store.specs.Parts.{spaceWith, slots, Holds}
+use Rattle.store.specs.Parts.{spaceWith, slots, Shows, Holds}
 use Rattle.store.specs.Checks.{headIn, headBytes, partTests, partLegal, notLegal, legalSums, checked}
-use Rattle.store.proofs.SpaceLaws.{Permitted, Within, within-true, true-within}
-use Rattle.store.proofs.ImageLaws.{admitted-recorded, length-directory, length-values, pairs-back, Image, image-back, legal-of-image, image-of-legal, length-pairs}
-use Rattle.store.proofs.OctetLaws.{true-same, bytes-in}
+use Rattle.store.proofs.SpaceLaws.{Permitted, Within, within-true}
+use Rattle.store.proofs.ImageLaws.{recorded, length-directory, length-values, pairs-shown, holds-shown, Image, image-back, legal-of-image, image-of-legal, length-pairs}
+use Rattle.store.proofs.WholeLaws.{directory-is}
 
 -- ---- a records part and a values part
 
@@ -92,11 +91,11 @@ module _ (t : Space) (d v : List ℕ) (w : Within t) (i : Image t d v) where
   unfolding valuesOf
   values-back = i .values
 
+  shown : Shows head-of (t .pairs) (part 64 (32 * slots head-of) d) (take (t .size) v)
+  shown = record { records = records-back; values = values-back }
+
   pairs-in : pairsIn (length (t .pairs)) (part 64 (32 * slots head-of) d) (take (t .size) v) ≡ t .pairs
-  unfolding recordsPart valuesPart
-  pairs-in =
-      ap₂ (pairsIn (length (t .pairs))) records-back values-back
-      ∙ pairs-back (t .id) 0 (t .pairs) _ _ (admitted-recorded (t .index) (t .pairs) (w .permits .index) (w .admitted))
+  pairs-in = pairs-shown head-of (t .pairs) _ _ shown (recorded t w) refl
 
   legal-image : Legal d v
   legal-image =
@@ -105,12 +104,7 @@ module _ (t : Space) (d v : List ℕ) (w : Within t) (i : Image t d v) where
         directory = rw head-back (long .0);
         values = rw head-back (long .1);
         head = rw head-back front;
-        holds =
-            rw head-back (
-            record {
-              limits = rw pairs-in (true-within t w);
-              shows = record { records = rw pairs-in records-back; values = rw pairs-in values-back };
-            });
+        holds = rw head-back (holds-shown head-of (t .pairs) _ _ shown w refl);
         pairs = rw (head-back, pairs-in, back);
         space = rw (head-back, pairs-in) back;
       }
@@ -119,10 +113,6 @@ pub legal-parts : (d v : List ℕ) → legal d v ≡ true → Legal d v
 legal-parts d v e =
     let i = image-of-legal d v e in
     legal-image (i .0) d v (i .1) (i .2)
-
-directory-is : (h : Head) (m : List Pair) → length m ≡ h .count → directoryOf (spaceWith h m) ≡ headBytes h ++ recordsPart (h .id) (slots h) m
-unfolding directoryOf headOf
-directory-is h m e = rw e
 
 -- the other way: a head in front of parts that hold pairs
 pub legal-of-parts : (h : Head) (d v : List ℕ) → take 64 d ≡ headBytes h → Holds h (part 64 (32 * slots h) d) (take (h .size) v)
@@ -135,14 +125,10 @@ legal-of-parts h d v e a =
     let w = within-true (spaceWith h m) (a .limits) in
     let i : Image (spaceWith h m) d v =
     record {
-      directory = take-add 64 (32 * slots h) d ∙ ap₂ (λ (x y : List ℕ). x ++ y) e (a .shows .records) ∙ sym (directory-is h m (length-pairs (h .count) s vs));
+      directory = take-add 64 (32 * slots h) d ∙ ap₂ (λ (x y : List ℕ). x ++ y) e (a .shows .records) ∙ sym (directory-is (spaceWith h []) m ∙ rw (length-pairs (h .count) s vs));
       values = a .shows .values;
     } in
     (legal-of-image (spaceWith h m) d v w i, image-back (spaceWith h m) d v w i)
-
-whole : (n : ℕ) (xs : List ℕ) → part 0 n xs ≡ take n xs
-unfolding part
-whole n xs = refl
 
 -- a head is written as it is read, where zeros stand behind its numbers
 pub head-is : (d : List ℕ) → Bytes d → 64 ≤ length d → allZero (part 16 48 d) ≡ true → take 64 d ≡ headBytes (headIn d)
@@ -152,7 +138,7 @@ head-is d b l z =
     sym (joins (bytes-in 0 4 d b (omega arith)) (bytes-in 4 4 d b (omega arith)) (bytes-in 8 4 d b (omega arith)) (bytes-in 12 4 d b (omega arith)) y)
   where
     joins : {a e f g y : List ℕ} → a ≡ part 0 4 d → e ≡ part 4 4 d → f ≡ part 8 4 d → g ≡ part 12 4 d → y ≡ part 16 48 d → a ++ e ++ f ++ g ++ y ≡ take 64 d
-    joins pa pe pf pg py = rw (pa, pe, pf, pg, py, ← part-two 0 4 4 d, ← part-two 0 8 4 d, ← part-two 0 12 4 d, ← part-two 0 16 48 d) (whole 64 d)
+    joins pa pe pf pg py = rw (pa, pe, pf, pg, py, ← part-two 0 4 4 d, ← part-two 0 8 4 d, ← part-two 0 12 4 d, ← part-two 0 16 48 d) (part-front 64 d)
 
 -- ---- the check's answer
 

@@ -1,4 +1,4 @@
--- The records and values of pairs one behind the other, and the places of records raised. Assumes nothing.
+-- The records and values of pairs one behind the other, the places of records raised, and a record written or put in. Assumes nothing.
 use mathlib.Core.Path.{_≡_, refl, sym, ap, _∙_}
 use mathlib.Core.List.{List, [], _∷_, _++_, append-assoc}
 use Prim.Native.Nat.{ℕ, suc, _+_, _-_, _*_, _%_, _^_, _≤_, _<_}
@@ -7,14 +7,15 @@ use native.Mathlib.Numerals.{add-one}
 use native.Mathlib.Omega.{arith}
 use lib.ListN.{length, length-append, length-replicate}
 use Rattle.octets.specs.Octets.{part, put, number, bytes, zeros, filled}
-use Rattle.octets.proofs.PartLaws.{puts-joined}
+use Rattle.octets.proofs.PartLaws.{put-seam, part-seam, puts-joined}
+use Rattle.octets.proofs.PutLaws.{moved-up}
 use Rattle.octets.proofs.NumberLaws.{number-bytes}
 use Rattle.octets.proofs.ZeroLaws.{length-filled}
 use Rattle.store.specs.Maps.{Pair, pair, values}
 use Rattle.store.specs.Image.{recordOf, recordsOf}
 use Rattle.store.specs.Verbs.{raised}
-use Rattle.store.proofs.ImageLaws.{Recorded, length-record, length-records}
-use Rattle.octets.proofs.PutLaws.{put-at, part-at, moved-up}
+use Rattle.store.proofs.RecordLaws.{length-record}
+use Rattle.store.proofs.ImageLaws.{Recorded, length-records}
 
 pub values-append : (m n : List Pair) → values (m ++ n) ≡ values m ++ values n
 values-append [] n = refl
@@ -51,7 +52,7 @@ raise-one id d j q r p a c e k h f =
     let l : length b ≡ 32 * j + 20 = rw (length-append a, length-append (filled 16 (p .key)), length-filled 16 (p .key) k) (omega arith) in
     let split : (n : ℕ) → a ++ (filled 16 (p .key) ++ bytes 4 (length (p .key)) ++ bytes 4 n ++ bytes 4 (length (p .value)) ++ bytes 4 id) ++ c ≡ b ++ bytes 4 n ++ t =
     λ n. simp append-assoc in
-    rw (split q, split r, part-at b (bytes 4 q) t (32 * j + 20) 4 l refl, number-bytes 4 q h, f) (put-at b (bytes 4 q) t (bytes 4 r) (32 * j + 20) l refl)
+    rw (split q, split r, rw l at (part-seam b (bytes 4 q) t), number-bytes 4 q h, f) (rw l at (put-seam b (bytes 4 q) t (bytes 4 r) refl))
 
 raise-records : (id d j q r : ℕ) (m : List Pair) (a c : List ℕ) → length a ≡ 32 * j → Recorded m → (q + d) % 2 ^ 32 ≡ r
     → q + length (values m) < 2 ^ 32 → r + length (values m) < 2 ^ 32

@@ -1,36 +1,20 @@
--- The search by halves. Assumes nothing.
-use mathlib.Core.Path.{_≡_, sym, _∙_, ap, ap₂}
+-- The search by halves: what is known at the loop's head, and the slot at its end. Assumes nothing.
+use mathlib.Core.Path.{_≡_, sym, _∙_, ap}
 use mathlib.Core.Bool.{Bool, true, false}
 use mathlib.Core.List.{List, []}
 use Prim.Native.Nat.{ℕ, _+_, _*_, _≤_, _<_}
 use native.Mathlib.Omega.{arith}
 use lib.Dec.{ltb}
-use lib.ListN.{length, take, getD}
-use lib.Seq.{length-take-le}
+use lib.ListN.{getD}
 use borrow.Author.Tests.{ltb-true, ltb-false}
-use Rattle.octets.specs.Octets.{part, number, filled}
+use Rattle.octets.specs.Octets.{part, number}
 use Rattle.octets.specs.declared.keys.Wide.{Wide}
 use Rattle.octets.specs.Keys.{Key, order, isLess, isEqual, wideOf, orderWide}
-use Rattle.octets.proofs.NumberLaws.{Bytes, bytes-part}
+use Rattle.octets.proofs.NumberLaws.{Bytes}
 use Rattle.octets.proofs.OrderLaws.{rising-true}
-use Rattle.octets.proofs.PartLaws.{length-part}
-use Rattle.octets.proofs.WideLaws.{order-wide}
+use Rattle.octets.proofs.WideLaws.{Widened, widened-order, widened-part}
 use Rattle.store.specs.Finds.{rank, keysIn, found, KeysFit}
-use Rattle.octets.proofs.PadLaws.{part-filled, bytes-filled}
 use Rattle.store.proofs.RankLaws.{rank-le, rank-test, has-at, has-past, length-keys-in, key-at}
-
--- w is the key k
-pub record Wanted (k : Key) (w : Wide) : Type 0 where
-  pub bytes : Bytes (filled 16 k)
-  pub short : length k ≤ 16
-  pub is : w ≡ wideOf (filled 16 k) (length k)
-
--- the bytes past the length may be anything
-pub wanted : (key : List ℕ) (len : ℕ) (w : Wide) → Bytes key → length key ≡ 16 → w ≡ wideOf (filled 16 (take len key)) len → len ≤ 16 → Wanted (take len key) w
-unfolding part
-wanted key len w b l e h =
-    let q : length (take len key) ≡ len = length-take-le len key (omega arith) in
-    record { bytes = bytes-filled 16 (take len key) (bytes-part 0 len key b (omega arith)); short = omega arith; is = e ∙ ap (wideOf (filled 16 (take len key))) (sym q) }
 
 abbrev pub wideSlot : ℕ → List ℕ → Wide
 wideSlot j s = wideOf (part (32 * j) 16 s) (number (part (32 * j + 16) 4 s))
@@ -38,7 +22,7 @@ wideSlot j s = wideOf (part (32 * j) 16 s) (number (part (32 * j + 16) 4 s))
 -- the slot of the key lies from low to high. The code has left the key itself behind, so this is of each key that is w
 pub record Halved (n : ℕ) (s : List ℕ) (w : Wide) (low high : ℕ) : Type 0 where
   pub inside : high ≤ n
-  pub is : (k : Key) → Wanted k w → (low ≤ rank k (keysIn n s)) × (rank k (keysIn n s) ≤ high)
+  pub is : (k : Key) → Widened w k → (low ≤ rank k (keysIn n s)) × (rank k (keysIn n s) ≤ high)
 
 pub halved-none : (n : ℕ) (s : List ℕ) (w : Wide) → Halved n s w 0 n
 halved-none n s w = record {
@@ -46,25 +30,19 @@ halved-none n s w = record {
   is = λ k g. (omega arith, omega (arith, rank-le k (keysIn n s), length-keys-in n s));
 }
 
-pub halved-past : {n : ℕ} {s : List ℕ} {w : Wide} {low high : ℕ} (k : Key) → Halved n s w low high → Wanted k w → high ≤ low → n ≤ low
+pub halved-past : {n : ℕ} {s : List ℕ} {w : Wide} {low high : ℕ} (k : Key) → Halved n s w low high → Widened w k → high ≤ low → n ≤ low
     → record { held = false; slot = low } ≡ found k (keysIn n s)
 halved-past {n} {s} {w} {low} k p g q h =
     let r : rank k (keysIn n s) ≡ low = omega (arith, p .is k g) in
     cc (has-past k (keysIn n s) (omega (arith, length-keys-in n s)))
 
 module _ {n : ℕ} {s : List ℕ} {w : Wide} (f : KeysFit n s) (b : Bytes s) where
-  slot-order : (j : ℕ) (k : Key) → j < n → Wanted k w → orderWide (wideSlot j s) w ≡ order (getD (keysIn n s) j []) k
+  slot-order : (j : ℕ) (k : Key) → j < n → Widened w k → orderWide (wideSlot j s) w ≡ order (getD (keysIn n s) j []) k
   slot-order j k h g =
-      let c = f .short j h in
-      let d : 32 * j + 16 ≤ length s = omega (arith, f .lie) in
-      let q = part (32 * j) (number (part (32 * j + 16) 4 s)) s in
-      let l : length q ≡ number (part (32 * j + 16) 4 s) = length-part _ _ _ (omega arith) in
-      let e = part-filled (32 * j) (number (part (32 * j + 16) 4 s)) 16 s d c (f .padded j h) in
-      let z : Bytes (filled 16 q) = rw e at (bytes-part (32 * j) 16 s b d) in
-      ap₂ orderWide (ap₂ wideOf e (sym l)) (g .is) ∙ order-wide q k z (g .bytes) (omega arith) (g .short)
-      ∙ ap (λ (x : Key). order x k) (sym (key-at n j s h))
+      let slot = widened-part (32 * j) (number (part (32 * j + 16) 4 s)) s b (omega (arith, f .lie)) (f .short j h) (f .padded j h) in
+      widened-order slot g ∙ ap (λ (x : Key). order x k) (sym (key-at n j s h))
 
-  slot-test : (j : ℕ) (k : Key) → j < n → Wanted k w → isLess (orderWide (wideSlot j s) w) ≡ ltb j (rank k (keysIn n s))
+  slot-test : (j : ℕ) (k : Key) → j < n → Widened w k → isLess (orderWide (wideSlot j s) w) ≡ ltb j (rank k (keysIn n s))
   slot-test j k h g =
       ap isLess (slot-order j k h g) ∙ rank-test k (keysIn n s) j (rising-true (keysIn n s) (f .rise)) (omega (arith, length-keys-in n s))
 
@@ -80,7 +58,7 @@ module _ {n : ℕ} {s : List ℕ} {w : Wide} (f : KeysFit n s) (b : Bytes s) whe
     is = λ k g. (p .is k g .0, omega (arith, ltb-false j (rank k (keysIn n s)) (sym (slot-test j k (omega arith) g) ∙ sym e ∙ q)));
   }
 
-  pub halved-found : {low high : ℕ} (k : Key) (t : Bool) → Halved n s w low high → Wanted k w → t ≡ isEqual (orderWide (wideSlot low s) w) → high ≤ low → low < n
+  pub halved-found : {low high : ℕ} (k : Key) (t : Bool) → Halved n s w low high → Widened w k → t ≡ isEqual (orderWide (wideSlot low s) w) → high ≤ low → low < n
       → record { held = t; slot = low } ≡ found k (keysIn n s)
   halved-found {low} k t p g e q h =
       let r : rank k (keysIn n s) ≡ low = omega (arith, p .is k g) in

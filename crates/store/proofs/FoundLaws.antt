@@ -12,11 +12,13 @@ use borrow.Author.Tests.{ltb-false, le-ltb, not-false}
 use Rattle.octets.specs.declared.keys.Order.the-variants.{Less}
 use Rattle.octets.specs.Octets.{part, zeros, filled, allZero}
 use Rattle.octets.specs.Keys.{Key, order}
-use Rattle.octets.proofs.PartLaws.{part-rest}
+use Rattle.octets.proofs.PartLaws.{part-rest, part-whole}
 use Rattle.octets.proofs.NumberLaws.{Bytes}
 use Rattle.octets.proofs.OrderLaws.{BelowFirst}
-use Rattle.octets.proofs.TestLaws.{both, neither}
+use Rattle.octets.proofs.TestLaws.{refuted, contrary, both, neither}
 use Rattle.octets.proofs.ZeroLaws.{zeros-all}
+use Rattle.octets.proofs.PadLaws.{part-filled}
+use Rattle.octets.proofs.WideLaws.{widened-none}
 use Rattle.store.specs.declared.formats.Format.{Format}
 use Rattle.store.specs.declared.heads.Head.{Head}
 use Rattle.store.specs.declared.checks.Sums.{Sums}
@@ -24,12 +26,11 @@ use Rattle.store.specs.Formats.{formatOf}
 use Rattle.store.specs.Maps.{Pair, keys, values}
 use Rattle.store.specs.Image.{recordsOf, recordsPart, valuesPart, pairsIn}
 use Rattle.store.specs.Parts.{spaceWith, slots, Shows, Holds}
-use Rattle.store.specs.Checks.{Readable, Checkable, partLegal, noSums, sumsOf, partSums, firstWide, walk}
+use Rattle.store.specs.Checks.{Readable, Checkable, partLegal, noSums, sumsOf, partSums, firstWide, passOver}
 use Rattle.store.proofs.SpaceLaws.{Admitted, Permitted, permitted, Within, within-true, true-within, format-bounds}
-use Rattle.store.proofs.ImageLaws.{admitted-recorded, length-records, values-used, length-pairs}
+use Rattle.store.proofs.ImageLaws.{recorded, length-records, values-used, length-pairs}
 use Rattle.store.proofs.CheckLaws.{holds-of-part, part-of-holds}
 use Rattle.store.proofs.PassLaws.{pass, grows, sound, complete}
-use Rattle.store.proofs.OctetLaws.{contrary, filled-back, refuted, widened-none}
 
 -- ---- a records part and a values part
 
@@ -64,6 +65,8 @@ module _ (h : Head) (s vs : List ℕ) (ask : Checkable h s vs) (b : Bytes s) (r 
       let d = sound h (p .index) (h .count) 0 0 [] firstWide s vs widened-none b (omega (arith, ask .records, f .count)) ok (omega (arith, ask .values)) in
       let t : pass (h .count) h 0 0 firstWide s .total ≡ length (values m) = omega (arith, d .total) in
       let zero-t : allZero (drop (length (values m)) vs) ≡ true = rw t at zero-v in
+      let s-is : part 0 (32 * slots h) s ≡ s = part-whole (32 * slots h) s (ask .records) in
+      let vs-is : part 0 (h .size) vs ≡ vs = part-whole (h .size) vs (ask .values) in
       record {
         limits =
             true-within (spaceWith h m) (
@@ -77,8 +80,8 @@ module _ (h : Head) (s vs : List ℕ) (ask : Checkable h s vs) (b : Bytes s) (r 
             );
         shows =
             record {
-              records = sym (ap (filled (32 * slots h)) (d .image) ∙ filled-back (32 * slots h) (32 * h .count) s (omega (arith, f .count)) (ask .records) (f .records));
-              values = sym (ap (filled (h .size)) (d .prefix) ∙ filled-back (h .size) (length (values m)) vs (omega arith) (ask .values) zero-t);
+              records = sym s-is ∙ part-filled 0 (32 * h .count) (32 * slots h) s (omega (arith, ask .records)) (omega (arith, f .count)) (rw s-is (f .records)) ∙ ap (filled (32 * slots h)) (sym (d .image));
+              values = sym vs-is ∙ part-filled 0 (length (values m)) (h .size) vs (omega (arith, ask .values)) (omega arith) (rw vs-is zero-t) ∙ ap (filled (h .size)) (sym (d .prefix));
             };
       }
 
@@ -92,7 +95,7 @@ module _ (h : Head) (s vs : List ℕ) (ask : Checkable h s vs) (b : Bytes s) (r 
       let v = values-used m in
       let c = complete h p m 0 0 [] firstWide z widened-none (empty-first (h .index) m (w .admitted)) (w .rising) (w .admitted) b2 (omega (arith, w .room, p .size-high)) in
       let e : r ≡ sumsOf m = is ∙ ap₂ (λ (k : ℕ) (l : List ℕ). pass k h 0 0 firstWide l) (sym n) (a .records) ∙ rw (zero-add, zero-add) at c in
-      let l = length-records (h .id) 0 m (admitted-recorded (h .index) m (p .index) (w .admitted)) in
+      let l = length-records (h .id) 0 m (recorded (spaceWith h m) w) in
       let x : length (recordsOf (h .id) 0 m) ≡ 32 * h .count = omega arith in (
         e,
         record {
@@ -133,21 +136,21 @@ module _ (h : Head) (s vs : List ℕ) (ask : Checkable h s vs) (b : Bytes s) (f 
       let m : slots h < h .count = rw e at l in
       refused h s vs ask b _ refl (λ g. omega (arith, g .count))
 
-  module _ (r : Sums) (is : r ≡ walk (h .count) h f 0 0 firstWide s) where
-    same-walk : r ≡ pass (h .count) h 0 0 firstWide s
-    same-walk = rw e at is
+  module _ (r : Sums) (is : r ≡ passOver (h .count) h f 0 0 firstWide s) where
+    same-pass : r ≡ pass (h .count) h 0 0 firstWide s
+    same-pass = rw e at is
 
     pub part-sums : (not (r .ok) || ltb (h .size) (r .used)) ≡ true → noSums ≡ partSums h s vs
-    part-sums q = refused h s vs ask b r same-walk (λ g. contrary (rw (g .ok, le-ltb (h .size) (r .used) (g .room)) at q))
+    part-sums q = refused h s vs ask b r same-pass (λ g. contrary (rw (g .ok, le-ltb (h .size) (r .used) (g .room)) at q))
 
     module _ (q : (not (r .ok) || ltb (h .size) (r .used)) ≡ false) where
       pub part-fits : (r .total ≤ length vs) × (r .used ≤ h .size) × (r .ok ≡ true)
       part-fits =
           let n = neither (not (r .ok)) (ltb (h .size) (r .used)) q in
           let ok = not-false (r .ok) (n .0) in
-          let g = grows (h .count) h 0 0 firstWide s (rw same-walk at ok) in
+          let g = grows (h .count) h 0 0 firstWide s (rw same-pass at ok) in
           let u : r .used ≤ h .size = ltb-false _ _ (n .1) in
-          let t : r .total + 0 ≤ r .used + 0 = rw same-walk (g .1) in
+          let t : r .total + 0 ≤ r .used + 0 = rw same-pass (g .1) in
           (omega (arith, ask .values), u, ok)
 
       module _ (y z : Bool) (ey : y ≡ allZero (take (length s - 32 * h .count) (drop (32 * h .count) s))) (ez : z ≡ allZero (take (length vs - r .total) (drop (r .total) vs))) where
@@ -160,12 +163,12 @@ module _ (h : Head) (s vs : List ℕ) (ask : Checkable h s vs) (b : Bytes s) (f 
         zeros-z = ez ∙ ap allZero (part-rest (r .total) vs)
 
         pub part-zeros : not (y && z) ≡ true → noSums ≡ partSums h s vs
-        part-zeros n = refused h s vs ask b r same-walk (λ g. contrary (rw (zeros-y, zeros-z, g .records, g .values) at n))
+        part-zeros n = refused h s vs ask b r same-pass (λ g. contrary (rw (zeros-y, zeros-z, g .records, g .values) at n))
 
         pub part-passed : not (y && z) ≡ false → h .count ≤ f .maxkeys → r ≡ partSums h s vs
         part-passed n l =
             let x = both y z (not-false (y && z) n) in
-            found h s vs ask b r same-walk (
+            found h s vs ask b r same-pass (
             record {
               count = rw e at l;
               ok = part-fits .2;

@@ -17,7 +17,7 @@ use Rattle.store.specs.Image.{recordOf, recordsOf, recordsPart, valuesPa
 use Rattle.store.specs.Parts.{spaceWith, slots, Shows, Holds, inserted, erased}
 use Rattle.store.specs.Verbs.{raised, placeFor, pairAt, CanInsert, CanRemove}
 use Rattle.store.proofs.SpaceLaws.{Within, within-true}
-use Rattle.store.proofs.ImageLaws.{Recorded, admitted-recorded, length-records, values-used, length-pairs}
+use Rattle.store.proofs.ImageLaws.{Recorded, recorded, length-records, values-used, length-pairs}
 use Rattle.store.proofs.SlotLaws.{values-cut, value-cut, key-length-at, key-at, place-at, length-at, value-at}
 use Rattle.store.proofs.VerbLaws.{insert-shows, remove-shows}
 
@@ -37,7 +37,7 @@ unfolding recordsPart valuesPart
 known h s vs c =
     let m : List Pair = pairsIn (h .count) s vs in
     let w : Within (spaceWith h m) = within-true (spaceWith h m) (c .limits) in
-    let r : Recorded m = admitted-recorded (h .index) m (w .permits .index) (w .admitted) in
+    let r : Recorded m = recorded (spaceWith h m) w in
     let n : length m ≡ h .count = length-pairs (h .count) s vs in
     let k : length m ≤ slots h = w .count in
     let v : length (values m) ≤ h .size = omega (arith, values-used m, w .room) in

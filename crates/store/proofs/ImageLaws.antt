@@ -1,23 +1,26 @@
--- The image of a map has the needed lengths and is read back; memory is legal exactly if it is the image of some map within the
--- limits; the same pairs have the same image. Assumes nothing.
+-- The image of a map has the needed lengths and is read back, so parts that show a map hold it; memory is legal exactly if it is
+-- the image of some map within the limits; the same pairs have the same image. Assumes nothing.
 use mathlib.Core.Path.{_≡_, refl, sym, _∙_, ap, ap₂}
 use mathlib.Core.Bool.{true}
 use mathlib.Core.List.{List, [], _∷_, _++_, append-assoc}
 use Prim.Native.Nat.{ℕ, zero, suc, _+_, _-_, _*_, _^_, _≤_, _<_}
-use native.Mathlib.Nat.{zero-add}
 use native.Mathlib.Omega.{arith}
-use lib.ListN.{length, take, drop, length-append, length-replicate, take-append-drop}
-use lib.Seq.{take-append-seam, drop-append-seam, take-at, drop-append-add}
-use Rattle.octets.specs.Octets.{part, put, number, bytes, zeros, filled}
+use lib.ListN.{length, take, drop, length-append, take-append-drop}
+use lib.Seq.{take-append-seam, drop-append-seam, take-at}
+use Rattle.octets.specs.Octets.{part, put, number, zeros}
 use Rattle.octets.specs.Keys.{Key}
 use Rattle.octets.proofs.TestLaws.{all-true}
+use Rattle.octets.proofs.PartLaws.{put-front}
 use Rattle.octets.proofs.NumberLaws.{number-bytes}
 use Rattle.octets.proofs.ZeroLaws.{same-self, same-true, length-filled}
+use Rattle.store.specs.declared.heads.Head.{Head}
 use Rattle.store.specs.Formats.{formatOf, needed}
 use Rattle.store.specs.Maps.{Pair, lookup, used, values}
-use Rattle.store.specs.Space.{Space, withPairs, within}
+use Rattle.store.specs.Space.{Space, withPairs}
 use Rattle.store.specs.Image.{headOf, recordOf, recordsOf, recordsPart, valuesPart, directoryOf, valuesOf, pairsIn, spaceOf, imageTests, legal}
+use Rattle.store.specs.Parts.{spaceWith, slots, Shows, Holds}
 use Rattle.store.proofs.MapLaws.{map-ext}
+use Rattle.store.proofs.RecordLaws.{length-record, key-in, key-length-in, value-length-in, rest-in}
 use Rattle.store.proofs.SpaceLaws.{Admitted, Within, within-true, true-within, format-bounds}
 
 -- lengths that a record's words can hold
@@ -35,10 +38,6 @@ pub recorded : (s : Space) → Within s → Recorded (s .pairs)
 recorded s w = admitted-recorded (s .index) (s .pairs) (w .permits .index) (w .admitted)
 
 -- ---- lengths
-
-pub length-record : (id at : ℕ) (p : Pair) → length (p .key) ≤ 16 → length (recordOf id at p) ≡ 32
-unfolding recordOf
-length-record id at p h = simp (length-append, length-replicate) (omega arith)
 
 pub length-records : (id at : ℕ) (m : List Pair) → Recorded m → length (recordsOf id at m) ≡ 32 * length m
 length-records id at [] r = refl
@@ -61,55 +60,37 @@ length-values s w = length-filled (s .size) (values (s .pairs)) (omega (arith, w
 
 -- ---- what stands in an image
 
--- a record's bytes: the key's sixteen, four words, and what follows
-module _ (f : List ℕ) (sixteen : length f ≡ 16) (a b c d : ℕ) (x : List ℕ) where
-  abbrev behind : List ℕ
-  behind = bytes 4 a ++ (bytes 4 b ++ (bytes 4 c ++ (bytes 4 d ++ x)))
-
-  past : (n : ℕ) → drop (16 + n) (f ++ behind) ≡ drop n behind
-  past n = rw (← sixteen) (drop-append-add f behind n)
-
-  key-length : a < 2 ^ 32 → number (part 16 4 (f ++ behind)) ≡ a
-  unfolding part
-  key-length h = rw (past 0) (number-bytes 4 a h)
-
-  value-length : c < 2 ^ 32 → number (part 24 4 (f ++ behind)) ≡ c
-  unfolding part
-  value-length h = rw (past 8) (number-bytes 4 c h)
-
-  next : drop 32 (f ++ behind) ≡ x
-  next = past 16
-
-opened : (id at : ℕ) (p : Pair) (x t : List ℕ) → recordOf id at p ++ x ++ t
-    ≡ filled 16 (p .key) ++ (bytes 4 (length (p .key)) ++ (bytes 4 at ++ (bytes 4 (length (p .value)) ++ (bytes 4 id ++ (x ++ t)))))
-unfolding recordOf
-opened id at p x t = simp append-assoc
-
-key-back : (k q : List ℕ) → take (length k) (filled 16 k ++ q) ≡ k
-key-back k q = rw (append-assoc k (zeros (16 - length k)) q) (take-append-seam k (zeros (16 - length k) ++ q))
-
 pub pairs-back : (id at : ℕ) (m : List Pair) (t u : List ℕ) → Recorded m → pairsIn (length m) (recordsOf id at m ++ t) (values m ++ u) ≡ m
 pairs-back id at [] t u r = refl
 pairs-back id at (p ∷ m) t u r =
-    let k = p .key in
     let v = p .value in
-    let f = length-filled 16 k (r .0) in
     let x = recordsOf id (at + length v) m ++ t in
     rw (
-      opened id at p (recordsOf id (at + length v) m) t,
-      key-length (filled 16 k) f (length k) at (length v) id x (omega (arith, r .0)),
-      value-length (filled 16 k) f (length k) at (length v) id x (r .1),
-      next (filled 16 k) f (length k) at (length v) id x,
+      append-assoc (recordOf id at p) (recordsOf id (at + length v) m) t,
+      key-length-in id at p (r .0) x,
+      key-in id at p (r .0) x,
+      value-length-in id at p (r .0) x (r .1),
+      rest-in id at p (r .0) x,
       append-assoc v (values m) u,
       take-append-seam v (values m ++ u),
       drop-append-seam v (values m ++ u),
       pairs-back id (at + length v) m t u (r .2),
-      key-back k (bytes 4 (length k) ++ (bytes 4 at ++ (bytes 4 (length v) ++ (bytes 4 id ++ x)))),
     )
 
 pub length-pairs : (n : ℕ) (d v : List ℕ) → length (pairsIn n d v) ≡ n
 length-pairs zero d v = refl
 length-pairs (suc n) d v = ap suc (length-pairs n (drop 32 d) (drop (number (part 24 4 d)) v))
+
+-- what parts show is what stands in them, and within the limits they hold it
+pub pairs-shown : (h : Head) (m : List Pair) (s vs : List ℕ) → Shows h m s vs → Recorded m → length m ≡ h .count → pairsIn (h .count) s vs ≡ m
+unfolding recordsPart valuesPart
+pairs-shown h m s vs g r n =
+    rw (← n, g .records, g .values) (pairs-back (h .id) 0 m (zeros (32 * slots h - length (recordsOf (h .id) 0 m))) (zeros (h .size - length (values m))) r)
+
+pub holds-shown : (h : Head) (m : List Pair) (s vs : List ℕ) → Shows h m s vs → Within (spaceWith h m) → length m ≡ h .count → Holds h s vs
+holds-shown h m s vs g w n =
+    let e : pairsIn (h .count) s vs ≡ m = pairs-shown h m s vs g (recorded (spaceWith h m) w) n in
+    record { limits = rw e (true-within (spaceWith h m) w); shows = rw e g }
 
 -- whatever stands behind the needed part
 pub space-back : (s : Space) (t u : List ℕ) → Within s → spaceOf (directoryOf s ++ t) (valuesOf s ++ u) ≡ s
@@ -165,10 +146,9 @@ image-put s d v w =
 
 -- it is already there
 pub put-image : (s : Space) (d v : List ℕ) → Within s → Image s d v → (put 0 (directoryOf s) d ≡ d) × (put 0 (valuesOf s) v ≡ v)
-unfolding put
 put-image s d v w i = (
-  rw (length-directory s w, zero-add, ← i .directory) (take-append-drop (needed (s .index)) d),
-  rw (length-values s w, zero-add, ← i .values) (take-append-drop (s .size) v),
+  rw (put-front (directoryOf s) d, length-directory s w, ← i .directory) (take-append-drop (needed (s .index)) d),
+  rw (put-front (valuesOf s) v, length-values s w, ← i .values) (take-append-drop (s .size) v),
 )
 
 -- one memory is the image of one space

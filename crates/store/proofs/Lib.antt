@@ -3,12 +3,11 @@ mod TableLaws
 pub mod MapLaws
 pub mod CountLaws
 pub mod SpaceLaws
+mod RecordLaws
 pub mod ImageLaws
 pub mod WholeLaws
-pub mod OctetLaws
-mod CheckTurns
-mod ClearLaws
-mod CheckSlots
+mod PassTurns
+mod PassSlots
 mod PassLaws
 pub mod CheckLaws
 mod FoundLaws

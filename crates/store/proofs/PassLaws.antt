@@ -12,23 +12,23 @@ use Rattle.octets.specs.declared.keys.Wide.{Wide}
 use Rattle.octets.specs.Octets.{part, bytes, filled}
 use Rattle.octets.specs.Keys.{Key, order, isLess, wideOf}
 use Rattle.octets.proofs.PartLaws.{part-two, part-drop}
-use Rattle.octets.proofs.NumberLaws.{Bytes, bytes-part}
-use Rattle.octets.proofs.OrderLaws.{Below, BelowFirst, Rising}
+use Rattle.octets.proofs.NumberLaws.{Bytes, bytes-part, bytes-drop}
+use Rattle.octets.proofs.OrderLaws.{Below, BelowFirst, Rising, less-true}
 use Rattle.octets.proofs.ZeroLaws.{zeros-all}
+use Rattle.octets.proofs.WideLaws.{Widened, widened-order, widened-part}
 use Rattle.store.specs.declared.heads.Head.{Head}
 use Rattle.store.specs.declared.checks.Sums.{Sums}
 use Rattle.store.specs.Formats.{formatOf}
 use Rattle.store.specs.Maps.{Pair, pair, keys, used, values}
 use Rattle.store.specs.Image.{recordOf, recordsOf, pairsIn}
-use Rattle.store.specs.Checks.{noSums, slotIn, walk}
+use Rattle.store.specs.Checks.{noSums, slotIn, passOver}
 use Rattle.store.proofs.SpaceLaws.{Admitted, Permitted, format-bounds}
-use Rattle.store.proofs.ImageLaws.{length-record}
-use Rattle.store.proofs.CheckSlots.{keyLength, valueLength, passing, Passed, passed, passes, record-is, sixteen, numbers, rest}
-use Rattle.store.proofs.OctetLaws.{less-true, bytes-drop, Widened, widened-key, widened-below}
+use Rattle.store.proofs.RecordLaws.{length-record, sixteen-in, key-length-in, place-in, value-length-in, id-in, rest-in}
+use Rattle.store.proofs.PassSlots.{keyLength, valueLength, passing, Passed, passed, passes, record-is}
 
 -- the pass under a head's own format
 abbrev pub pass : ℕ → Head → ℕ → ℕ → Wide → List ℕ → Sums
-pass n h t u w s = walk n h (formatOf (h .index)) t u w s
+pass n h t u w s = passOver n h (formatOf (h .index)) t u w s
 
 -- ---- what stands in records that pass
 
@@ -40,16 +40,12 @@ taken false x e = (e, cc)
 pub grows : (n : ℕ) (h : Head) (t u : ℕ) (w : Wide) (s : List ℕ) → pass n h t u w s .ok ≡ true
     → (t ≤ pass n h t u w s .total)
     × (pass n h t u w s .total + u ≤ pass n h t u w s .used + t)
-unfolding walk
+unfolding passOver
 grows zero h t u w s e = (omega arith, omega arith)
 grows (suc n) h t u w s e =
     let q = taken (passing h t w s) _ e in
     let g = grows n h (t + slotIn s .size) (u + (slotIn s .length + slotIn s .size)) (slotIn s .key) (drop 32 s) (q .1) in
     rw (q .0) (omega arith, omega arith)
-
-none : (s : List ℕ) → [] ≡ part 0 0 s
-unfolding part
-none s = refl
 
 pub record Sound (h : Head) (t u : ℕ) (j : Key) (r : Sums) (n : ℕ) (s vs : List ℕ) (m : List Pair) : Type 0 where
   pub image : recordsOf (h .id) t m ≡ part 0 (32 * n) s
@@ -65,19 +61,20 @@ module _ (h : Head) (bound : h .index ≤ 15) where
       → 32 ≤ length s → valueLength s ≤ length vs
       → Sound h (t + valueLength s) (u + (keyLength s + valueLength s)) (take (keyLength s) s) r n (drop 32 s) (drop (valueLength s) vs) m
       → Sound h t u j r (suc n) s vs (pair (take (keyLength s) s) (take (valueLength s) vs) ∷ m)
+  unfolding part
   sound-more t u n j w r s vs m p wj b l lv g =
       let k = keyLength s in
       let v = valueLength s in
       let f = format-bounds (h .index) bound in
       let short : k ≤ 16 = omega (arith, p .short) in
-      let wk = widened-key k s b (omega arith) short (p .padded) in
+      let wk = widened-part 0 k s b (omega arith) short (p .padded) in
       let nk : length (take k s) ≡ k = length-take-le k s (omega arith) in
       let nv : length (take v vs) ≡ v = length-take-le v vs lv in
       let x : length (take v vs ++ values m) ≡ v + length (values m) = rw (length-append, nv) in
       let e : 32 * suc n ≡ 32 + 32 * n = omega arith in
       record {
         image = rw (nv, e, part-two 0 32 (32 * n) s, record-is h t w s vs p b l short lv, g .image, part-drop 32 0 (32 * n) s);
-        first = less-true (order j (take k s)) (sym (widened-below wj wk) ∙ p .rises);
+        first = less-true (order j (take k s)) (sym (ap isLess (widened-order wj wk)) ∙ p .rises);
         rising = (g .first, g .rising);
         admitted = (omega (arith, p .some), omega (arith, p .short), omega (arith, p .small), g .admitted);
         prefix = rw (x, take-add v (length (values m)) vs) (ap (λ (ys : List ℕ). take v vs ++ ys) (g .prefix));
@@ -88,9 +85,9 @@ module _ (h : Head) (bound : h .index ≤ 15) where
   pub sound : (n t u : ℕ) (j : Key) (w : Wide) (s vs : List ℕ) → Widened w j → Bytes s → 32 * n ≤ length s
       → pass n h t u w s .ok ≡ true → pass n h t u w s .total ≤ t + length vs
       → Sound h t u j (pass n h t u w s) n s vs (pairsIn n s vs)
-  unfolding walk slotIn
+  unfolding passOver slotIn part
   sound zero t u j w s vs wj b l e v =
-      record { image = none s; first = tt; rising = tt; admitted = tt; prefix = refl; total = omega arith; used = omega arith }
+      record { image = refl; first = tt; rising = tt; admitted = tt; prefix = refl; total = omega arith; used = omega arith }
   sound (suc n) t u j w s vs wj b l e v =
       let k = keyLength s in
       let l-v = valueLength s in
@@ -99,7 +96,7 @@ module _ (h : Head) (bound : h .index ≤ 15) where
       let f = format-bounds (h .index) bound in
       let g = grows n h (t + l-v) (u + (k + l-v)) (wideOf (part 0 16 s) k) (drop 32 s) (q .1) in
       let x : pass n h (t + l-v) (u + (k + l-v)) (wideOf (part 0 16 s) k) (drop 32 s) .total ≤ t + length vs = rw (q .0) at v in
-      let wk = widened-key k s b (omega arith) (omega (arith, p .short)) (p .padded) in
+      let wk = widened-part 0 k s b (omega arith) (omega (arith, p .short)) (p .padded) in
       rw (q .0)
       (sound-more t u n j w _ s vs (pairsIn n (drop 32 s) (drop l-v vs)) p wj b (omega arith) (omega arith)
       (sound n (t + l-v) (u + (k + l-v)) (take k s) (wideOf (part 0 16 s) k) (drop 32 s) (drop l-v vs) wk (bytes-drop 32 s b) (omega (arith, length-drop 32 s)) (q .1) (omega (arith, length-drop l-v vs))))
@@ -116,36 +113,37 @@ module _ (h : Head) (permits : Permitted (h .index) (h .id) (h .size)) where
       → Bytes (recordOf (h .id) t p ++ x) → t + length (p .value) < 2 ^ 32
       → (Widened (wideOf (filled 16 (p .key)) (length (p .key))) (p .key) → Completes m (t + length (p .value)) (u + (length (p .key) + length (p .value))) (wideOf (filled 16 (p .key)) (length (p .key))) x)
       → Completes (p ∷ m) t u w (recordOf (h .id) t p ++ x)
-  unfolding walk slotIn
+  unfolding passOver slotIn
   complete-more t u j w p m x wj lj some short small b fits rec =
       let k = p .key in
       let v = p .value in
       let s = recordOf (h .id) t p ++ x in
       let f = format-bounds (h .index) (permits .index) in
       let k16 : length k ≤ 16 = omega arith in
-      let six = sixteen (h .id) t p k16 x in
-      let n = numbers (h .id) t p k16 x (omega arith) (omega arith) (omega (arith, permits .id-high)) in
+      let six = sixteen-in (h .id) t p k16 x in
+      let kl = key-length-in (h .id) t p k16 x in
+      let vl = value-length-in (h .id) t p k16 x (omega arith) in
       let ls : 16 ≤ length s = rw length-append (omega (arith, length-record (h .id) t p k16)) in
       let wk : Widened (wideOf (filled 16 k) (length k)) k = record { is = refl; short = k16; bytes = rw six at (bytes-part 0 16 s b ls) } in
       let ok : passing h t w s ≡ true =
-      passes h t w s b ls (omega (arith, n .0)) (
+      passes h t w s b ls (omega (arith, kl)) (
       record {
-        some = omega (arith, n .0);
-        short = omega (arith, n .0);
-        small = omega (arith, n .2);
-        stands = n .1;
-        owned = n .3;
-        rises = rw (six, n .0) (widened-below wj wk ∙ ap isLess lj);
-        padded = rw (six, n .0, drop-append-seam) (zeros-all (16 - length k));
+        some = omega (arith, kl);
+        short = omega (arith, kl);
+        small = omega (arith, vl);
+        stands = place-in (h .id) t p k16 x (omega arith);
+        owned = id-in (h .id) t p k16 x (omega (arith, permits .id-high));
+        rises = rw (six, kl) (ap isLess (widened-order wj wk ∙ lj));
+        padded = rw (six, kl, drop-append-seam) (zeros-all (16 - length k));
       }
       ) in
       let x-t : t + length v + length (values m) ≡ t + length (v ++ values m) = rw length-append (omega arith) in
       let x-u : u + (length k + length v) + used m ≡ u + (length k + length v + used m) = omega arith in
-      rw (ok, n .2, n .0, six, rest (h .id) t p k16 x, ← x-t, ← x-u) (rec wk)
+      rw (ok, vl, kl, six, rest-in (h .id) t p k16 x, ← x-t, ← x-u) (rec wk)
 
   pub complete : (m : List Pair) (t u : ℕ) (j : Key) (w : Wide) (r : List ℕ) → Widened w j → BelowFirst j (keys m) → Rising (keys m) → Admitted (h .index) m
       → Bytes (recordsOf (h .id) t m ++ r) → t + length (values m) < 2 ^ 32 → Completes m t u w (recordsOf (h .id) t m ++ r)
-  unfolding walk
+  unfolding passOver
   complete [] t u j w r wj f g a b l = simp add-zero
   complete (p ∷ m) t u j w r wj f g a b l =
       let t2 = t + length (p .value) in

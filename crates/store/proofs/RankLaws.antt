@@ -1,27 +1,30 @@
--- The slot of a key, and what the map does there. Assumes nothing.
+-- The slot of a key among rising keys, what the map does there, and that held parts can be searched for it. Assumes nothing.
 use mathlib.Core.Path.{_≡_, refl, sym, _∙_, ap}
-use mathlib.Core.Bool.{Bool, true, false}
-use mathlib.Core.List.{List, [], _∷_, _++_, append-assoc}
+use mathlib.Core.Bool.{true, false}
+use mathlib.Core.List.{List, [], _∷_}
 use Prim.Native.Nat.{ℕ, zero, suc, _+_, _-_, _*_, _≤_, _<_}
 use native.Mathlib.Omega.{arith}
 use lib.Dec.{ltb, leb·suc-suc}
-use lib.ListN.{length, take, drop, getD, length-append, length-take, length-drop}
-use lib.Seq.{drop-append-le, take-at, drop-at, drop-drop, drop-append-seam}
+use lib.ListN.{length, take, drop, getD}
+use lib.Seq.{drop-drop, drop-append-seam}
 use borrow.Author.Tests.{lt-ltb, le-ltb}
 use Rattle.octets.specs.declared.keys.Order.{Order}
 use Rattle.octets.specs.declared.keys.Order.the-variants.{Less, Equal, Greater}
-use Rattle.octets.specs.Octets.{part, number, bytes, zeros, filled}
+use Rattle.octets.specs.Octets.{part, number, allZero}
 use Rattle.octets.specs.Keys.{Key, order, isLess, isEqual, from}
-use Rattle.octets.proofs.ZeroLaws.{zeros-all, length-filled}
+use Rattle.octets.proofs.TestLaws.{contrary}
+use Rattle.octets.proofs.ZeroLaws.{zeros-all}
 use Rattle.octets.proofs.OrderLaws.{Below, Rising, order-eq, order-flip, below-trans, below-greater, greater-below, below-first-trans, true-rising}
 use Rattle.store.specs.declared.heads.Head.{Head}
-use Rattle.store.specs.Formats.{formatOf}
 use Rattle.store.specs.Maps.{Pair, pair, keys, insert, erase, present, valueOf}
-use Rattle.store.specs.Image.{recordOf, recordsOf, recordsPart, pairsIn}
-use Rattle.store.specs.Parts.{spaceWith, slots, Holds, inserted, erased}
+use Rattle.store.specs.Image.{pairsIn}
+use Rattle.store.specs.Parts.{spaceWith, Holds, inserted, erased}
 use Rattle.store.specs.Finds.{rank, hasKey, keysIn, KeysFit}
-use Rattle.store.proofs.SpaceLaws.{Admitted, Within, within-true, format-bounds}
-use Rattle.store.proofs.ImageLaws.{Recorded, admitted-recorded, length-record, length-records, length-pairs}
+use Rattle.store.specs.Verbs.{pairAt}
+use Rattle.store.proofs.SpaceLaws.{within-true, format-bounds}
+use Rattle.store.proofs.ImageLaws.{length-pairs}
+use Rattle.store.proofs.SlotLaws.{recorded-at, sixteen-at}
+use Rattle.store.proofs.HeldLaws.{Known, known, slot-known}
 
 -- ---- the slot of a key among keys
 
@@ -35,7 +38,7 @@ rank-le k (j ∷ ks) = go (order k j) refl (rank-le k ks)
     go Greater e r = rw e (omega arith)
 
 pub rank-lt : (k : Key) (ks : List Key) → hasKey k ks ≡ true → rank k ks < length ks
-rank-lt k [] h = absurd (let z : _≡_ {A = ℕ} 0 1 = cc in omega arith)
+rank-lt k [] h = absurd (contrary h)
 rank-lt k (j ∷ ks) h = go (order k j) refl (rank-lt k ks) h
   where
     go : (o : Order) → order k j ≡ o → (hasKey k ks ≡ true → rank k ks < length ks) → hasKey k (j ∷ ks) ≡ true → rank k (j ∷ ks) < suc (length ks)
@@ -121,7 +124,7 @@ insert-held k v (p ∷ m) h = go (order k (p .key)) refl (insert-held k v m) h
         → (hasKey k (keys m) ≡ true → insert k v m ≡ inserted (rank k (keys m)) (pair k v) (erased (rank k (keys m)) m))
         → hasKey k (keys (p ∷ m)) ≡ true
         → insert k v (p ∷ m) ≡ inserted (rank k (keys (p ∷ m))) (pair k v) (erased (rank k (keys (p ∷ m))) (p ∷ m))
-    go Less e r h = let z : _≡_ {A = Bool} false true = rw e at h in cc
+    go Less e r h = absurd (contrary (rw e at h))
     go Equal e r h = rw e
     go Greater e r h = rw e (ap (λ (l : List Pair). p ∷ l) (r (rw e at h)))
 
@@ -133,7 +136,7 @@ insert-new k v (p ∷ m) h = go (order k (p .key)) refl (insert-new k v m) h
     go : (o : Order) → order k (p .key) ≡ o → (hasKey k (keys m) ≡ false → insert k v m ≡ inserted (rank k (keys m)) (pair k v) m)
         → hasKey k (keys (p ∷ m)) ≡ false → insert k v (p ∷ m) ≡ inserted (rank k (keys (p ∷ m))) (pair k v) (p ∷ m)
     go Less e r h = rw e
-    go Equal e r h = let z : _≡_ {A = Bool} true false = rw e at h in cc
+    go Equal e r h = absurd (contrary (sym (rw e at h)))
     go Greater e r h = rw e (ap (λ (l : List Pair). p ∷ l) (r (rw e at h)))
 
 pub erase-held : (k : Key) (m : List Pair) → hasKey k (keys m) ≡ true → erase k m ≡ erased (rank k (keys m)) m
@@ -143,7 +146,7 @@ erase-held k (p ∷ m) h = go (order k (p .key)) refl (erase-held k m) h
   where
     go : (o : Order) → order k (p .key) ≡ o → (hasKey k (keys m) ≡ true → erase k m ≡ erased (rank k (keys m)) m)
         → hasKey k (keys (p ∷ m)) ≡ true → erase k (p ∷ m) ≡ erased (rank k (keys (p ∷ m))) (p ∷ m)
-    go Less e r h = let z : _≡_ {A = Bool} false true = rw e at h in cc
+    go Less e r h = absurd (contrary (rw e at h))
     go Equal e r h = rw e
     go Greater e r h = rw e (ap (λ (l : List Pair). p ∷ l) (r (rw e at h)))
 
@@ -153,7 +156,7 @@ value-held k (p ∷ m) d h = go (order k (p .key)) refl (value-held k m d) h
   where
     go : (o : Order) → order k (p .key) ≡ o → (hasKey k (keys m) ≡ true → valueOf k m ≡ getD m (rank k (keys m)) d .value)
         → hasKey k (keys (p ∷ m)) ≡ true → valueOf k (p ∷ m) ≡ getD (p ∷ m) (rank k (keys (p ∷ m))) d .value
-    go Less e r h = let z : _≡_ {A = Bool} false true = rw e at h in cc
+    go Less e r h = absurd (contrary (rw e at h))
     go Equal e r h = rw e
     go Greater e r h = rw e (r (rw e at h))
 
@@ -164,8 +167,7 @@ keys-in zero s vs = refl
 keys-in (suc n) s vs = ap (λ (ks : List Key). take (number (part 16 4 s)) s ∷ ks) (keys-in n (drop 32 s) (drop (number (part 24 4 s)) vs))
 
 pub length-keys-in : (n : ℕ) (s : List ℕ) → length (keysIn n s) ≡ n
-length-keys-in zero s = refl
-length-keys-in (suc n) s = ap suc (length-keys-in n (drop 32 s))
+length-keys-in n s = ap length (sym (keys-in n s [])) ∙ length-keys (pairsIn n s []) ∙ length-pairs n s []
 
 -- the key of slot j
 pub key-at : (n j : ℕ) (s : List ℕ) → j < n → getD (keysIn n s) j [] ≡ part (32 * j) (number (part (32 * j + 16) 4 s)) s
@@ -177,75 +179,36 @@ key-at (suc n) (suc j) s h =
     let b : 32 + (32 * j + 16) ≡ 32 * suc j + 16 = omega arith in
     key-at n j (drop 32 s) (omega arith) ∙ rw (drop-drop (32 * j) 32 s, drop-drop (32 * j + 16) 32 s, a, b)
 
-key-short : (i : ℕ) (m : List Pair) (j : ℕ) → Admitted i m → j < length m → length (getD (keys m) j []) ≤ formatOf i .keymax
-key-short i [] j a h = absurd (omega arith)
-key-short i (p ∷ m) zero a h = a .1
-key-short i (p ∷ m) (suc j) a h = key-short i m j (a .3) (omega arith)
-
-front : (a b c d e x t : List ℕ) → length a ≡ 16 → take 16 (a ++ b ++ c ++ d ++ e ++ x ++ t) ≡ a
-front a b c d e x t h = simp append-assoc (take-at a (b ++ (c ++ (d ++ (e ++ (x ++ t))))) 16 h)
-
--- the sixteen bytes of slot j
-key-bytes : (id at : ℕ) (m : List Pair) (t : List ℕ) (j : ℕ) → Recorded m → j < length m → part (32 * j) 16 (recordsOf id at m ++ t) ≡ filled 16 (getD (keys m) j [])
-unfolding part recordOf
-key-bytes id at [] t j r h = absurd (omega arith)
-key-bytes id at (p ∷ m) t zero r h =
-    front (filled 16 (p .key)) (bytes 4 (length (p .key))) (bytes 4 at) (bytes 4 (length (p .value))) (bytes 4 id) (recordsOf id (at + length (p .value)) m) t (length-filled 16 (p .key) (r .0))
-key-bytes id at (p ∷ m) t (suc j) r h =
-    let x = recordsOf id (at + length (p .value)) m in
-    let l = length-record id at p (r .0) in
-    let a : 32 * suc j ≡ 32 + 32 * j = omega arith in
-    rw (
-      a,
-      ← drop-drop (32 * j) 32 ((recordOf id at p ++ x) ++ t),
-      drop-append-le 32 (recordOf id at p ++ x) t (rw length-append (omega arith)),
-      drop-at (recordOf id at p) x 32 l,
-    ) (key-bytes id (at + length (p .value)) m t j (r .2) (omega arith))
-
 module _ {h : Head} {s vs : List ℕ} (o : Holds h s vs) where
   abbrev m : List Pair
   m = pairsIn (h .count) s vs
 
-  w : Within (spaceWith h m)
-  w = within-true (spaceWith h m) (o .limits)
-
-  r : Recorded m
-  r = admitted-recorded (h .index) m (w .permits .index) (w .admitted)
-
-  count : length m ≡ h .count
-  count = length-pairs (h .count) s vs
-
-  lie : length s ≡ 32 * slots h
-  unfolding recordsPart
-  lie = ap length (o .shows .records)
-      ∙ length-filled (32 * slots h) (recordsOf (h .id) 0 m) (omega (arith, length-records (h .id) 0 m r, w .count))
-
-  key : (j : ℕ) → j < h .count → getD (keys m) j [] ≡ part (32 * j) (number (part (32 * j + 16) 4 s)) s
-  key j l = rw (keys-in (h .count) s vs) (key-at (h .count) j s l)
-
-  short : (j : ℕ) → j < h .count → (number (part (32 * j + 16) 4 s) ≤ 16) × (length (getD (keys m) j []) ≡ number (part (32 * j + 16) 4 s))
-  unfolding part
-  short j l =
-      let a = key-short (h .index) m j (w .admitted) (omega (arith, count)) in
-      let b = format-bounds (h .index) (w .permits .index) in
-      let c : 32 * j + 32 ≤ length s = omega (arith, lie, w .count, count) in
-      let d = simp (length-take, length-drop) at (ap length (key j l)) in
-      (omega arith, omega arith)
-
-  sixteen : (j : ℕ) → j < h .count → part (32 * j) 16 s ≡ filled 16 (getD (keys m) j [])
-  unfolding recordsPart
-  sixteen j l =
-      ap (part (32 * j) 16) (o .shows .records)
-      ∙ key-bytes (h .id) 0 m (zeros (32 * slots h - length (recordsOf (h .id) 0 m))) j r (omega (arith, count))
+  c : Known h m s vs
+  c = known h s vs o
 
   pub rising-in : Rising (keysIn (h .count) s)
-  rising-in = rw (← keys-in (h .count) s vs) (w .rising)
+  rising-in = rw (← keys-in (h .count) s vs) (within-true (spaceWith h m) (o .limits) .rising)
+
+  module _ (j : ℕ) (l : j < h .count) where
+    inside : j < length m
+    inside = omega (arith, c .count)
+
+    size : number (part (32 * j + 16) 4 s) ≡ length (pairAt m j .key)
+    size = slot-known h m s vs c j l .key-length
+
+    short : number (part (32 * j + 16) 4 s) ≤ 16
+    short = rw size (recorded-at m j inside (c .recorded) .0)
+
+    padded : allZero (drop (number (part (32 * j + 16) 4 s)) (part (32 * j) 16 s)) ≡ true
+    padded =
+        let k = pairAt m j .key in
+        rw (size, sixteen-at m j inside (c .recorded) h s vs (c .shows), drop-append-seam) (zeros-all (16 - length k))
 
   pub keys-fit : KeysFit (h .count) s
   keys-fit = record {
-    lie = omega (arith, lie, w .count, count);
-    few = omega (arith, format-bounds (h .index) (w .permits .index), w .count, count);
-    short = λ j l. short j l .0;
-    padded = λ j l. rw (sixteen j l, ← short j l .1, drop-append-seam) (zeros-all (16 - length (getD (keys m) j [])));
+    lie = omega (arith, c .records, c .bound);
+    few = omega (arith, format-bounds (h .index) (within-true (spaceWith h m) (o .limits) .permits .index), c .bound);
+    short = short;
+    padded = padded;
     rise = true-rising (keysIn (h .count) s) rising-in;
   }

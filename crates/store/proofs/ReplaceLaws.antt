@@ -1,35 +1,23 @@
--- Parts that show pairs within the limits hold them, so one verb can follow the other. Assumes nothing.
+-- A pair less is within the limits, so what remove leaves is held and insert can follow: replace. Assumes nothing.
 use mathlib.Core.Path.{_≡_, ap, _∙_}
 use mathlib.Core.List.{List, [], _∷_, _++_}
 use Prim.Native.Nat.{ℕ, zero, suc, _+_, _-_, _*_, _≤_, _<_}
 use native.Mathlib.Omega.{arith}
 use lib.ListN.{length, take, drop, length-append, length-drop}
 use lib.Seq.{length-take-le}
-use Rattle.octets.specs.Octets.{part, number, zeros}
+use Rattle.octets.specs.Octets.{part, number}
 use Rattle.octets.specs.Keys.{Key}
 use Rattle.octets.proofs.OrderLaws.{BelowFirst, Rising, below-first-trans}
 use Rattle.store.specs.declared.heads.Head.{Head}
 use Rattle.store.specs.Maps.{Pair, pair, keys, used, values}
-use Rattle.store.specs.Image.{recordsOf, recordsPart, valuesPart, pairsIn}
-use Rattle.store.specs.Parts.{spaceWith, slots, Shows, Holds, inserted, erased}
+use Rattle.store.specs.Image.{pairsIn}
+use Rattle.store.specs.Parts.{spaceWith, Shows, Holds, inserted, erased}
 use Rattle.store.specs.Verbs.{pairAt, CanInsert, CanReplace}
-use Rattle.store.proofs.SpaceLaws.{Admitted, Within, within-true, true-within}
-use Rattle.store.proofs.ImageLaws.{Recorded, admitted-recorded, pairs-back, length-pairs}
+use Rattle.store.proofs.SpaceLaws.{Admitted, Within, within-true}
+use Rattle.store.proofs.ImageLaws.{recorded, pairs-shown, holds-shown, length-pairs}
 use Rattle.store.proofs.EditLaws.{values-append}
 use Rattle.store.proofs.SlotLaws.{value-cut}
 use Rattle.store.proofs.HeldLaws.{Known, known, slot-known, remove-known}
-
--- ---- what is shown is held
-
-pub pairs-shown : (h : Head) (m : List Pair) (s vs : List ℕ) → Shows h m s vs → Recorded m → length m ≡ h .count → pairsIn (h .count) s vs ≡ m
-unfolding recordsPart valuesPart
-pairs-shown h m s vs g r n =
-    rw (← n, g .records, g .values) (pairs-back (h .id) 0 m (zeros (32 * slots h - length (recordsOf (h .id) 0 m))) (zeros (h .size - length (values m))) r)
-
-pub holds-shown : (h : Head) (m : List Pair) (s vs : List ℕ) → Shows h m s vs → Within (spaceWith h m) → length m ≡ h .count → Holds h s vs
-holds-shown h m s vs g w n =
-    let e : pairsIn (h .count) s vs ≡ m = pairs-shown h m s vs g (admitted-recorded (h .index) m (w .permits .index) (w .admitted)) n in
-    record { limits = rw e (true-within (spaceWith h m) w); shows = rw e g }
 
 -- ---- a pair less is within the limits
 
@@ -109,7 +97,7 @@ module _ (h : Head) (i : ℕ) (s vs s′ vs′ : List ℕ) (c : Holds h s vs) (s
   shown = record { records = g .records; values = g .values }
 
   pub pairs-erased : pairsIn (fewer h .count) s′ vs′ ≡ erased i old
-  pairs-erased = pairs-shown (fewer h) (erased i old) s′ vs′ shown (admitted-recorded (h .index) (erased i old) (within .permits .index) (within .admitted)) count
+  pairs-erased = pairs-shown (fewer h) (erased i old) s′ vs′ shown (recorded (spaceWith (fewer h) (erased i old)) within) count
 
   pub holds-erased : Holds (fewer h) s′ vs′
   holds-erased = holds-shown (fewer h) (erased i old) s′ vs′ shown within count

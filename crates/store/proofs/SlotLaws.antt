@@ -1,35 +1,30 @@
 -- What stands at a slot of an image: the words of its record, its key and its value. Assumes nothing.
-use mathlib.Core.Path.{_≡_, refl, sym, ap, _∙_}
+use mathlib.Core.Path.{_≡_, sym, ap, _∙_}
 use mathlib.Core.List.{List, [], _∷_, _++_, append-assoc}
-use Prim.Native.Nat.{ℕ, zero, suc, _+_, _-_, _*_, _^_, _≤_, _<_}
+use Prim.Native.Nat.{ℕ, suc, _+_, _-_, _*_, _^_, _≤_, _<_}
 use native.Mathlib.Nat.{add-zero, zero-add}
 use native.Mathlib.Omega.{arith}
-use lib.ListN.{length, take, drop, length-append, length-replicate, take-append-drop}
-use lib.Seq.{length-take-le, drop-cons, split-at}
-use Rattle.octets.specs.Octets.{part, number, bytes, zeros, filled}
-use Rattle.octets.proofs.PartLaws.{part-seam}
-use Rattle.octets.proofs.NumberLaws.{number-bytes}
-use Rattle.octets.proofs.ZeroLaws.{length-filled}
+use lib.ListN.{length, take, drop, length-append, take-append-drop}
+use lib.Seq.{length-take-le, drop-cons, drop-at, split-at}
+use Rattle.octets.specs.Octets.{part, number, zeros, filled}
+use Rattle.octets.proofs.PartLaws.{part-seam, part-drop}
 use Rattle.store.specs.declared.heads.Head.{Head}
 use Rattle.store.specs.Maps.{Pair, pair, values}
 use Rattle.store.specs.Image.{recordOf, recordsOf, recordsPart, valuesPart}
 use Rattle.store.specs.Parts.{slots, Shows}
 use Rattle.store.specs.Verbs.{pairAt}
+use Rattle.store.proofs.RecordLaws.{sixteen-in, key-in, key-length-in, place-in, value-length-in}
 use Rattle.store.proofs.ImageLaws.{Recorded, length-records}
-use Rattle.octets.proofs.PutLaws.{part-at}
 use Rattle.store.proofs.EditLaws.{values-append, records-append}
 
-pub recorded-take : (i : ℕ) (m : List Pair) → Recorded m → Recorded (take i m)
-recorded-take zero [] r = tt
-recorded-take zero (p ∷ m) r = tt
-recorded-take (suc i) [] r = tt
-recorded-take (suc i) (p ∷ m) r = (r .0, r .1, recorded-take i m (r .2))
+recorded-parts : (a b : List Pair) → Recorded (a ++ b) → Recorded a × Recorded b
+recorded-parts [] b r = (tt, r)
+recorded-parts (p ∷ a) b r =
+    let s = recorded-parts a b (r .2) in
+    ((r .0, r .1, s .0), s .1)
 
-pub recorded-drop : (i : ℕ) (m : List Pair) → Recorded m → Recorded (drop i m)
-recorded-drop zero [] r = r
-recorded-drop zero (p ∷ m) r = r
-recorded-drop (suc i) [] r = tt
-recorded-drop (suc i) (p ∷ m) r = recorded-drop i m (r .2)
+pub recorded-cut : (i : ℕ) (m : List Pair) → Recorded m → Recorded (take i m) × Recorded (drop i m)
+recorded-cut i m r = recorded-parts (take i m) (drop i m) (rw (take-append-drop i m) r)
 
 -- the values before slot i and from it on
 pub values-cut : (i : ℕ) (m : List Pair) → length (values (take i m)) + length (values (drop i m)) ≡ length (values m)
@@ -53,11 +48,11 @@ module _ (m : List Pair) (i : ℕ) (inside : i < length m) where
 
   module _ (r : Recorded m) where
     before : (id : ℕ) → length (recordsOf id 0 (take i m)) ≡ 32 * i
-    before id = length-records id 0 (take i m) (recorded-take i m r) ∙ ap (λ (k : ℕ). 32 * k) (length-take-le i m (omega arith))
+    before id = length-records id 0 (take i m) (recorded-cut i m r .0) ∙ ap (λ (k : ℕ). 32 * k) (length-take-le i m (omega arith))
 
     pub recorded-at : (length (pairAt m i .key) ≤ 16) × (length (pairAt m i .value) < 2 ^ 32)
     recorded-at =
-        let q : Recorded (pairAt m i ∷ drop (suc i) m) = rw (drop-cons m i (pair [] []) inside) at (recorded-drop i m r) in
+        let q : Recorded (pairAt m i ∷ drop (suc i) m) = rw (drop-cons m i (pair [] []) inside) at (recorded-cut i m r .1) in
         (q .0, q .1)
 
     module _ (h : Head) (s vs : List ℕ) (g : Shows h m s vs) where
@@ -80,39 +75,27 @@ module _ (m : List Pair) (i : ℕ) (inside : i < length m) where
           ap (recordsOf (h .id) 0) (sym whole) ∙ records-append (h .id) 0 (take i m) (pairAt m i ∷ drop (suc i) m) ∙ rw (zero-add place) in
           g .records ∙ ap (λ (l : List ℕ). l ++ zeros (32 * slots h - length (recordsOf (h .id) 0 m))) e ∙ simp append-assoc
 
-      -- q stands in the record, b bytes into it
-      field : (b n : ℕ) (p q c : List ℕ) → length p ≡ b → length q ≡ n → recordOf (h .id) place (pairAt m i) ≡ p ++ q ++ c → part (32 * i + b) n s ≡ q
-      field b n p q c l k e =
-          let f : ahead ++ (p ++ q ++ c) ++ rest ≡ (ahead ++ p) ++ q ++ (c ++ rest) = simp append-assoc in
-          let d : length (ahead ++ p) ≡ 32 * i + b = length-append ahead p ∙ omega (arith, before (h .id)) in
-          ap (part (32 * i + b) n) (slot ∙ ap (λ (w : List ℕ). ahead ++ w ++ rest) e ∙ f) ∙ part-at (ahead ++ p) q (c ++ rest) (32 * i + b) n d k
+      field : (b n : ℕ) → part (32 * i + b) n s ≡ part b n (recordOf (h .id) place (pairAt m i) ++ rest)
+      field b n =
+          sym (part-drop (32 * i) b n s)
+          ∙ ap (λ (l : List ℕ). part b n (drop (32 * i) l)) (slot ∙ append-assoc ahead (recordOf (h .id) place (pairAt m i)) rest)
+          ∙ ap (part b n) (drop-at ahead _ (32 * i) (before (h .id)))
 
-      sixteen : length (filled 16 key) ≡ 16
-      sixteen = length-filled 16 key (recorded-at .0)
+      pub sixteen-at : part (32 * i) 16 s ≡ filled 16 key
+      sixteen-at = rw add-zero at (field 0 16) ∙ sixteen-in (h .id) place (pairAt m i) (recorded-at .0) rest
 
       pub key-at : part (32 * i) (length key) s ≡ key
-      unfolding recordOf
-      key-at =
-          let n = zeros (16 - length key) ++ bytes 4 (length key) ++ bytes 4 place ++ bytes 4 (length value) ++ bytes 4 (h .id) in
-          rw add-zero at (field 0 (length key) [] key n refl refl (simp append-assoc))
+      unfolding part
+      key-at = rw add-zero at (field 0 (length key)) ∙ key-in (h .id) place (pairAt m i) (recorded-at .0) rest
 
       pub key-length-at : number (part (32 * i + 16) 4 s) ≡ length key
-      unfolding recordOf
-      key-length-at =
-          rw (field 16 4 (filled 16 key) (bytes 4 (length key)) (bytes 4 place ++ bytes 4 (length value) ++ bytes 4 (h .id)) sixteen refl (simp append-assoc))
-          (number-bytes 4 (length key) (omega (arith, recorded-at .0)))
+      key-length-at = ap number (field 16 4) ∙ key-length-in (h .id) place (pairAt m i) (recorded-at .0) rest
 
       pub place-at : length (values m) < 2 ^ 32 → number (part (32 * i + 20) 4 s) ≡ place
-      unfolding recordOf
-      place-at l =
-          rw (field 20 4 (filled 16 key ++ bytes 4 (length key)) (bytes 4 place) (bytes 4 (length value) ++ bytes 4 (h .id)) (length-append (filled 16 key) (bytes 4 (length key)) ∙ omega (arith, sixteen)) refl (simp append-assoc))
-          (number-bytes 4 place (omega (arith, values-cut i m)))
+      place-at l = ap number (field 20 4) ∙ place-in (h .id) place (pairAt m i) (recorded-at .0) rest (omega (arith, values-cut i m))
 
       pub length-at : number (part (32 * i + 24) 4 s) ≡ length value
-      unfolding recordOf
-      length-at =
-          rw (field 24 4 (filled 16 key ++ bytes 4 (length key) ++ bytes 4 place) (bytes 4 (length value)) (bytes 4 (h .id)) (simp (length-append, length-replicate) (omega (arith, recorded-at .0))) refl (simp append-assoc))
-          (number-bytes 4 (length value) (recorded-at .1))
+      length-at = ap number (field 24 4) ∙ value-length-in (h .id) place (pairAt m i) (recorded-at .0) rest (recorded-at .1)
 
       pub value-at : part place (length value) vs ≡ value
       unfolding valuesPart

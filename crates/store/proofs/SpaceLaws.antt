@@ -1,4 +1,5 @@
--- The formats' bounds, and the limits of a space as named facts. Assumes nothing.
+-- The formats' bounds; what numbers 3 to 6 let pass and the limits of a space, as named facts; insert and erase keep to what a
+-- format admits. Assumes nothing.
 use mathlib.Core.Path.{_≡_, refl}
 use mathlib.Core.Bool.{true}
 use mathlib.Core.List.{List, [], _∷_}
@@ -12,7 +13,7 @@ use Rattle.octets.specs.declared.keys.Order.{Order}
 use Rattle.octets.specs.declared.keys.Order.the-variants.{Less, Equal, Greater}
 use Rattle.octets.specs.Keys.{Key, order}
 use Rattle.octets.specs.Tests.{firstOf}
-use Rattle.octets.proofs.TestLaws.{all-true, true-all, neither, None, none-holds}
+use Rattle.octets.proofs.TestLaws.{all-true, true-all, neither, None, none-holds, none-first}
 use Rattle.octets.proofs.OrderLaws.{Rising, rising-true, true-rising}
 use Rattle.store.specs.Formats.{formatOf, needed}
 use Rattle.store.specs.Maps.{Pair, keys, insert, erase, used}
@@ -78,15 +79,20 @@ formattable i id n d v e =
       values = ltb-false v n (slices .1);
     }
 
+none-of : (i id n : ℕ) → Permitted i id n → None (permitSteps i id n)
+none-of i id n p = (
+  le-ltb 15 i (p .index),
+  (rw (ne-eqb id 0 (λ e. omega arith), lt-leb 0xffff_ffff id (p .id-high)), (rw (ne-eqb n 0 (λ e. omega arith), le-ltb 65536 n (p .size-high)), tt)),
+)
+
 pub passes : (i id n : ℕ) → Permitted i id n → firstOf (permitSteps i id n) ≡ 0
-passes i id n p =
-    rw (
-      le-ltb 15 i (p .index),
-      ne-eqb id 0 (λ e. omega arith),
-      lt-leb 0xffff_ffff id (p .id-high),
-      ne-eqb n 0 (λ e. omega arith),
-      le-ltb 65536 n (p .size-high),
-    )
+passes i id n p = none-first (permitSteps i id n) (none-of i id n p)
+
+pub formats : (i id n d v : ℕ) → Formattable i id n d v → firstOf (formatSteps i id n d v) ≡ 0
+unfolding formatSteps
+formats i id n d v f =
+    let r = none-of i id n (f .permits) in
+    none-first (formatSteps i id n d v) (r .0, (r .1 .0, (r .1 .1 .0, (rw (le-ltb d (needed i) (f .directory), le-ltb v n (f .values)), tt))))
 
 pub record Within (s : Space) : Type 0 where
   pub permits : Permitted (s .index) (s .id) (s .size)

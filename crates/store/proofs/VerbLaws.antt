@@ -1,4 +1,5 @@
--- The two verbs on the image of pairs: what their edits of the bytes leave is the image of the pairs with one more, or one less. Assumes nothing.
+-- The two verbs on the image of pairs: what their edits of the bytes leave is the image of the pairs with one more, or one less.
+-- Assumes nothing.
 use mathlib.Core.Path.{_≡_, sym, ap, _∙_}
 use mathlib.Core.List.{List, [], _∷_, _++_, append-assoc}
 use Prim.Native.Nat.{ℕ, suc, _+_, _-_, _*_, _%_, _^_, _≤_, _<_}
@@ -7,15 +8,16 @@ use native.Mathlib.Omega.{arith}
 use lib.ListN.{length, take, drop, length-append, length-drop, take-append-drop}
 use lib.Seq.{length-take-le, split-at}
 use Rattle.octets.specs.Octets.{part, put, zeros, filled}
+use Rattle.octets.proofs.PutLaws.{put-in, take-out}
 use Rattle.store.specs.declared.heads.Head.{Head}
 use Rattle.store.specs.Maps.{Pair, pair, values}
 use Rattle.store.specs.Image.{recordOf, recordsOf, recordsPart, valuesPart}
 use Rattle.store.specs.Parts.{slots, Shows, inserted, erased}
 use Rattle.store.specs.Verbs.{raised, pairAt}
-use Rattle.store.proofs.ImageLaws.{Recorded, length-record, length-records}
-use Rattle.octets.proofs.PutLaws.{put-in, take-out}
+use Rattle.store.proofs.RecordLaws.{length-record}
+use Rattle.store.proofs.ImageLaws.{Recorded, length-records}
 use Rattle.store.proofs.EditLaws.{values-append, records-append, raise-filled}
-use Rattle.store.proofs.SlotLaws.{recorded-take, recorded-drop, values-cut, value-cut, recorded-at}
+use Rattle.store.proofs.SlotLaws.{recorded-cut, values-cut, value-cut, recorded-at}
 
 -- ---- a pair p between a and b
 
@@ -89,7 +91,7 @@ module _ (h : Head) (m : List Pair) (s vs s′ vs′ : List ℕ) (t i q : ℕ) (
       let ab : a ++ b ≡ m = take-append-drop i m in
       let cut : length (values a) + length (values b) ≡ length (values m) = values-cut i m in
       let left : t - q ≡ length (values b) = omega arith in
-      let rs = rw (la, lb, ab) at (insert-records (h .id) (slots h) a b (pair k v) (recorded-take i m r) (recorded-drop i m r) hk (omega arith) (omega arith)) in
+      let rs = rw (la, lb, ab) at (insert-records (h .id) (slots h) a b (pair k v) (recorded-cut i m r .0) (recorded-cut i m r .1) hk (omega arith) (omega arith)) in
       let us = rw ab at (insert-values (h .size) a b (pair k v) (omega arith)) in
       record { records = es ∙ rw (g .records, place) rs; values = ev ∙ rw (left, place, g .values) us }
 
@@ -108,6 +110,6 @@ module _ (h : Head) (m : List Pair) (s vs s′ vs′ : List ℕ) (t i q : ℕ) (
       let apb : a ++ p ∷ b ≡ m = sym (split-at m i (pair [] []) li) in
       let cut : length (values a) + length (p .value) + length (values b) ≡ length (values m) = value-cut m i li in
       let left : t - q - w ≡ length (values b) = omega arith in
-      let rs = rw (la, lb, apb) at (remove-records (h .id) (slots h) a b p (recorded-take i m r) (recorded-drop (suc i) m r) (recorded-at m i li r .0) (omega arith) (omega arith) d (rw long at wraps)) in
+      let rs = rw (la, lb, apb) at (remove-records (h .id) (slots h) a b p (recorded-cut i m r .0) (recorded-cut (suc i) m r .1) (recorded-at m i li r .0) (omega arith) (omega arith) d (rw long at wraps)) in
       let us = rw apb at (remove-values (h .size) a b p (omega arith)) in
       record { records = es ∙ rw (g .records) rs; values = ev ∙ rw (left, long, place, g .values) us }

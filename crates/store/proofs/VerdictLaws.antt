@@ -7,22 +7,21 @@ use native.Mathlib.Omega.{arith}
 use lib.ListN.{length, take, drop}
 use lib.Seq.{take-add, length-take-le, drop-at}
 use lib.Dec.{leb, ltb, eqb}
-use borrow.Author.Tests.{eqb-true, ltb-false, le-ltb, lt-leb, ne-eqb, eq-eqb, not-true, not-false}
+use borrow.Author.Tests.{eqb-true, le-ltb, eq-eqb, not-true, not-false}
 use Rattle.octets.specs.Octets.{part, allZero}
 use Rattle.octets.specs.Tests.{row, firstOf}
 use Rattle.octets.proofs.PartLaws.{length-part}
 use Rattle.octets.proofs.NumberLaws.{Bytes}
-use Rattle.octets.proofs.TestLaws.{neither, none-holds}
+use Rattle.octets.proofs.TestLaws.{refuted, contrary}
 use Rattle.store.specs.declared.heads.Head.{Head}
 use Rattle.store.specs.declared.checks.Sums.{Sums}
 use Rattle.store.specs.Formats.{needed}
-use Rattle.store.specs.Space.{permitSteps, formatSteps}
+use Rattle.store.specs.Space.{formatSteps}
 use Rattle.store.specs.Image.{headOf, pairsIn, legal}
 use Rattle.store.specs.Parts.{slots}
 use Rattle.store.specs.Checks.{headIn, Checkable, partLegal, sumsOf, partSums, notLegal, checked}
-use Rattle.store.proofs.SpaceLaws.{Permitted, permitted}
+use Rattle.store.proofs.SpaceLaws.{Formattable, formattable, passes, formats}
 use Rattle.store.proofs.CheckLaws.{holds-of-part, part-of-holds, Legal, legal-parts, legal-of-parts, head-is}
-use Rattle.store.proofs.OctetLaws.{contrary, refuted}
 
 -- ---- numbers 3 to 6
 
@@ -39,26 +38,6 @@ unfolding formatSteps
 steps-are h end d v e l =
     rw (e, le-ltb 15 (h .index) l)
     (no-row (eqb (h .id) 0 || leb 0xffff_ffff (h .id)) (eqb (h .size) 0 || ltb 65536 (h .size)) (ltb d (needed (h .index)) || ltb v (h .size)))
-
-steps-pass : (i id n d v : ℕ) → firstOf (formatSteps i id n d v) ≡ 0 → (firstOf (permitSteps i id n) ≡ 0) × (needed i ≤ d) × (n ≤ v)
-unfolding formatSteps
-steps-pass i id n d v e =
-    let r = none-holds (formatSteps i id n d v) tt e in
-    let x = neither (ltb d (needed i)) (ltb v n) (r .1 .1 .1 .0) in
-    (rw (r .0, r .1 .0, r .1 .1 .0), ltb-false _ _ (x .0), ltb-false _ _ (x .1))
-
-pass-steps : (i id n d v : ℕ) → Permitted i id n → needed i ≤ d → n ≤ v → firstOf (formatSteps i id n d v) ≡ 0
-unfolding formatSteps
-pass-steps i id n d v p l m =
-    rw (
-      le-ltb 15 i (p .index),
-      ne-eqb id 0 (λ e. omega arith),
-      lt-leb 0xffff_ffff id (p .id-high),
-      ne-eqb n 0 (λ e. omega arith),
-      le-ltb 65536 n (p .size-high),
-      le-ltb d (needed i) l,
-      le-ltb v n m,
-    )
 
 -- ---- `check`, one law for each way out
 
@@ -91,18 +70,15 @@ module _ (d v : List ℕ) (b : Bytes d) where
         not-legal
         (λ g.
         let x : firstOf (formatSteps (h .index) (h .id) (h .size) (length d) (length v)) ≡ 0 =
-        rw eh (pass-steps (headIn d .index) (headIn d .id) (headIn d .size) (length d) (length v) (g .permits) (g .directory) (g .values)) in
+        rw eh (formats (headIn d .index) (headIn d .id) (headIn d .size) (length d) (length v) (record { permits = g .permits; directory = g .directory; values = g .values })) in
         contrary (sym (not-true ok q) ∙ eo ∙ eq-eqb _ 0 x))
 
     pub check-zeros : (z : Bool) → z ≡ allZero (take 48 (drop 16 d)) → not z ≡ true → notLegal ≡ checked d v
     check-zeros z ez q = not-legal (λ g. contrary (sym (not-true z q) ∙ ez ∙ blank g))
 
     module _ (q : not ok ≡ false) where
-      pub head-passed : (firstOf (permitSteps (h .index) (h .id) (h .size)) ≡ 0) × (needed (h .index) ≤ length d) × (h .size ≤ length v)
-      head-passed = steps-pass (h .index) (h .id) (h .size) (length d) (length v) (eqb-true _ 0 (sym eo ∙ not-false ok q))
-
-      pub head-index : h .index ≤ 15
-      head-index = permitted (h .index) (h .id) (h .size) (head-passed .0) .index
+      pub head-passed : Formattable (h .index) (h .id) (h .size) (length d) (length v)
+      head-passed = formattable (h .index) (h .id) (h .size) (length d) (length v) (eqb-true _ 0 (sym eo ∙ not-false ok q))
 
       module _ (end : ℕ) (ee : end ≡ needed (h .index)) where
         rest-is : take (end - 64) (drop 64 d) ≡ part 64 (32 * slots h) d
@@ -114,9 +90,9 @@ module _ (d v : List ℕ) (b : Bytes d) where
         pub check-asks : Checkable h (take (end - 64) (drop 64 d)) (take (h .size) v)
         check-asks =
             record {
-              permitted = head-passed .0;
-              records = rw rest-is (length-part 64 (32 * slots h) d (head-passed .1));
-              values = length-take-le (h .size) v (head-passed .2);
+              permitted = passes _ _ _ (head-passed .permits);
+              records = rw rest-is (length-part 64 (32 * slots h) d (head-passed .directory));
+              values = length-take-le (h .size) v (head-passed .values);
             }
 
         module _ (r : Sums) (er : r ≡ partSums h (take (end - 64) (drop 64 d)) (take (h .size) v)) where
@@ -136,7 +112,7 @@ module _ (d v : List ℕ) (b : Bytes d) where
           unfolding checked part
           check-passed z ez zz n =
               let s = sums-legal (headIn d) (part 64 (32 * slots (headIn d)) d) (take (headIn d .size) v) r sums-at (not-false (r .ok) n) in
-              let e = head-is d b (omega (arith, head-passed .1)) (sym ez ∙ not-false z zz) in
+              let e = head-is d b (omega (arith, head-passed .directory)) (sym ez ∙ not-false z zz) in
               let l = legal-of-parts (headIn d) d v e (holds-of-part _ _ _ (s .0)) .0 in
               let g = legal-parts d v l in
               rw (l, s .1, g .pairs, eh)

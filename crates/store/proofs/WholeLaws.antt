@@ -2,10 +2,9 @@
 use mathlib.Core.Path.{_≡_, refl, sym, ap, _∙_}
 use mathlib.Core.List.{List, _++_, append-assoc}
 use Prim.Native.Nat.{ℕ}
-use native.Mathlib.Nat.{zero-add}
 use lib.ListN.{length, take, drop}
-use Rattle.octets.specs.Octets.{part, put, bytes, zeros}
-use Rattle.octets.proofs.PartLaws.{put-seam}
+use Rattle.octets.specs.Octets.{put, bytes, zeros}
+use Rattle.octets.proofs.PartLaws.{put-seam, put-front}
 use Rattle.store.specs.Formats.{formatOf, needed}
 use Rattle.store.specs.Maps.{Pair}
 use Rattle.store.specs.Space.{Space, withPairs}
@@ -24,11 +23,7 @@ counted s n k xs =
     ∙ put-seam (front s) (bytes 4 n) (zeros 48 ++ xs) (bytes 4 k) refl
     ∙ sym (append-assoc (front s ++ bytes 4 k) (zeros 48) xs)
 
-put-front : (vs xs : List ℕ) → put 0 vs xs ≡ vs ++ drop (length vs) xs
-unfolding put
-put-front vs xs = rw zero-add
-
-directory-is : (s : Space) (m : List Pair) → directoryOf (withPairs s m) ≡ headOf s (length m) ++ recordsPart (s .id) (formatOf (s .index) .maxkeys) m
+pub directory-is : (s : Space) (m : List Pair) → directoryOf (withPairs s m) ≡ headOf s (length m) ++ recordsPart (s .id) (formatOf (s .index) .maxkeys) m
 unfolding directoryOf headOf
 directory-is s m = refl
 

@@ -1,13 +1,13 @@
 -- What the check of the store's memory answers, and the pass over the records that finds it. Assumes nothing.
 use mathlib.Core.Path.{_≡_}
-use mathlib.Core.Bool.{Bool, true, false, cond, _&&_}
+use mathlib.Core.Bool.{Bool, true, false, cond}
 use mathlib.Core.List.{List, [], _∷_}
-use Prim.Native.Nat.{ℕ, zero, suc, _+_, _-_, _*_, _%_, _^_, _≤_}
+use Prim.Native.Nat.{ℕ, zero, suc, _+_, _*_, _≤_}
 use lib.ListN.{length, drop}
-use lib.Dec.{leb, ltb, eqb}
+use lib.Dec.{leb, eqb}
 use Rattle.octets.specs.declared.keys.Wide.{Wide}
 use Rattle.octets.specs.Octets.{part, number, same}
-use Rattle.octets.specs.Keys.{isLess, wideOf, orderWide}
+use Rattle.octets.specs.Keys.{isLess, wideOf, orderWide, clearWide}
 use Rattle.octets.specs.Tests.{all, firstOf}
 use Rattle.store.specs.declared.formats.Format.{Format}
 use Rattle.store.specs.declared.heads.Head.{Head}
@@ -78,12 +78,6 @@ slotIn s =
       id = number (part 28 4 s);
     }
 
--- zeros stand behind the key, by what shifts leave of its two numbers
-unfoldable pub clearWide : Wide → Bool
-clearWide w =
-    cond (ltb (w .len) 8) (eqb (w .low) 0 && eqb (w .high * 2 ^ (8 * w .len) % 2 ^ 64) 0)
-    (cond (ltb (w .len) 16) (eqb (w .low * 2 ^ (8 * (w .len - 8)) % 2 ^ 64) 0) true)
-
 -- the tests of a record, behind values of `total` bytes and the key `before`
 abbrev pub slotTests : Head → Format → ℕ → Wide → Slot → List Bool
 slotTests h f total before r =
@@ -101,11 +95,11 @@ abbrev pub firstWide : Wide
 firstWide = record { high = 0; low = 0; len = 0 }
 
 -- n records from the front of s on, with the sums up to there
-unfoldable pub walk : ℕ → Head → Format → ℕ → ℕ → Wide → List ℕ → Sums
-walk zero h f t u w s = record { ok = true; total = t; used = u }
-walk (suc n) h f t u w s =
+unfoldable pub passOver : ℕ → Head → Format → ℕ → ℕ → Wide → List ℕ → Sums
+passOver zero h f t u w s = record { ok = true; total = t; used = u }
+passOver (suc n) h f t u w s =
     let r = slotIn s in
-    cond (all (slotTests h f t w r)) (walk n h f (t + r .size) (u + (r .length + r .size)) (r .key) (drop 32 s)) noSums
+    cond (all (slotTests h f t w r)) (passOver n h f (t + r .size) (u + (r .length + r .size)) (r .key) (drop 32 s)) noSums
 
 -- the bounds of a format, and a records part that has the records
 pub record Readable (h : Head) (f : Format) (s : List ℕ) : Type 0 where

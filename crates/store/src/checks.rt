@@ -6,6 +6,7 @@ use crate::heads::directory_size;
 use crate::heads::is_permitted;
 use crate::heads::read_head;
 use octets::keys::Wide;
+use octets::keys::is_clear;
 use octets::keys::less;
 use octets::keys::widen;
 use octets::runs::all_zero;
@@ -14,7 +15,7 @@ ghost use mathlib.Core.Path.{_≡_};
 ghost use Prim.Native.Nat.{_+_, _*_, _≤_};
 ghost use lib.ListN.{length, drop};
 ghost use Rattle.octets.specs.Tests.{all};
-ghost use Rattle.store.specs.Checks.{Readable, Checkable, slotIn, clearWide, slotTests, firstWide, walk, partSums, checked};
+ghost use Rattle.store.specs.Checks.{Readable, Checkable, slotIn, slotTests, firstWide, passOver, partSums, checked};
 
 // The sum of the value lengths and the used room of parts that are legal, so that no command adds them up again.
 pub struct Sums {
@@ -72,19 +73,6 @@ fn slot_at(records: &[u8], at: usize) -> Slot
     }
 }
 
-// By the two numbers that are in hand, and not by `is_padded`, which would read the sixteen bytes again.
-fn is_clear(w: Wide) -> bool
-    ensures { λ r. ⌜ r ≡ clearWide w ⌝ }
-{
-    if w.len < 8 {
-        return (w.low == 0) & (w.high << (8 * w.len) == 0);
-    }
-    if w.len < 16 {
-        return w.low << (8 * (w.len - 8)) == 0;
-    }
-    true
-}
-
 fn slot_ok(r: Slot, before: Wide, total: u32, h: Head, f: Format) -> bool
     ensures { λ ok. ⌜ ok ≡ all (slotTests h f total before r) ⌝ }
 {
@@ -100,7 +88,7 @@ fn slot_ok(r: Slot, before: Wide, total: u32, h: Head, f: Format) -> bool
 // The key before the first record is the empty one, which is below every other.
 fn check_records(records: &[u8], h: Head, f: Format) -> Sums
     requires { ⌜ Readable h f (now records) ⌝ }
-    ensures { λ r. ⌜ r ≡ walk (h .count) h f 0 0 firstWide (now (records .entry)) ⌝ }
+    ensures { λ r. ⌜ r ≡ passOver (h .count) h f 0 0 firstWide (now (records .entry)) ⌝ }
 {
     let count = h.count as usize;
     let mut before = Wide {

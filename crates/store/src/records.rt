@@ -11,7 +11,6 @@ ghost use Rattle.store.specs.Maps.{pair};
 ghost use Rattle.store.specs.Image.{recordOf};
 ghost use Rattle.store.specs.Verbs.{raised};
 
-// Where the value of a slot begins in the value slice.
 pub fn place_at(records: &[u8], slot: usize) -> u32
     requires { ⌜ 32 * slot + 32 ≤ length (now records) ⌝ }
     ensures { λ r. ⌜ r ≡ number (part (32 * slot + 20) 4 (now (records .entry))) ⌝ }
@@ -26,7 +25,6 @@ pub fn length_at(records: &[u8], slot: usize) -> u32
     read32(records, 32 * slot + 24)
 }
 
-// The record of a pair whose value is to stand at a place.
 pub fn write_record(records: &mut [u8], slot: usize, id: u32, place: u32, key: &[u8], value: &[u8])
     requires { ⌜ (32 * slot + 32 ≤ length (now records)) × (length (now key) ≤ 16) × (length (now value) < 2 ^ 32) ⌝ }
     ensures { λ _. ⌜ now (records .exit) ≡ put (32 * slot) (recordOf id place (pair (now (key .entry)) (now (value .entry)))) (now (records .entry)) ⌝ }

@@ -94,7 +94,6 @@ pub fn insert(
     insert_record(records, slot, count - slot, h.id, place, key, value);
 }
 
-// The pair at a slot taken out.
 pub fn remove(records: &mut [u8], values: &mut [u8], h: Head, total: u32, slot: usize)
     requires { ⌜ CanRemove h total slot (now records) (now values) ⌝ }
     ensures { λ _. ⌜ Shows h (erased slot (pairsIn (h .count) (now (records .entry)) (now (values .entry)))) (now (records .exit)) (now (values .exit)) ⌝ }

@@ -1,7 +1,8 @@
+use native.Mathlib.Nat.{add-zero}
 use native.Mathlib.Omega.{arith}
 use borrow.Author.Needs.{needs}
 use Rattle.octets.specs.Keys.{wideOf}
-use Rattle.octets.proofs.PartLaws.{part-halves}
+use Rattle.octets.proofs.PartLaws.{part-inside}
 use Rattle.octets.proofs.keys.widen.Statement.{statement}
 use Rattle.octets.proofs.keys.widen.Tie as tie
 
@@ -15,5 +16,5 @@ widen-spec =
     (λ c κs. search needs)
     (λ c.
     let a = c .before .before .before .args in
-    let h = part-halves (a .at) 8 8 (a .s .now) (omega arith) in
-    cc (h .0, h .1)))
+    let part-of = part-inside (a .at) 16 in
+    cc (rw add-zero at (part-of 0 8 (a .s .now) (omega arith)), part-of 8 8 (a .s .now) (omega arith))))

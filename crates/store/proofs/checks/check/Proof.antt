@@ -1,25 +1,21 @@
 use mathlib.Core.Path.{sym}
-use Prim.Native.Nat.{_≤_}
 use native.Mathlib.Omega.{arith}
 use lib.ListN.{length}
 use lib.Seq.{length-take-le}
 use borrow.Author.Needs.{needs}
-use Rattle.store.specs.Formats.{needed}
-use Rattle.store.proofs.VerdictLaws.{check-short, check-head, check-zeros, head-passed, head-index, check-asks, check-sums, check-passed}
+use Rattle.store.proofs.SpaceLaws.{Formattable}
+use Rattle.store.proofs.VerdictLaws.{check-short, check-head, check-zeros, head-passed, check-asks, check-sums, check-passed}
 use Rattle.store.proofs.checks.check.Statement.{statement}
 use Rattle.store.proofs.checks.check.Tie as tie
 
 -- where the head has passed
-long : (c : tie.Else2) → let h = c .before .before in
-    (h .read-head .result .index ≤ 15)
-    × (needed (h .read-head .result .index) ≤ length (h .before .before .before .before .args .directory .now))
-    × (h .read-head .result .size ≤ length (h .before .before .before .before .args .values .now))
-long c =
+passed : (c : tie.Else2) → let h = c .before .before in
+    Formattable (h .read-head .result .index) (h .read-head .result .id) (h .read-head .result .size) (length (h .before .before .before .before .args .directory .now))
+    (length (h .before .before .before .before .args .values .now))
+passed c =
     let h = c .before .before in
     let a = h .before .before .before in
-    let b = head-passed (a .before .args .directory .now) (a .before .args .values .now) (λ i l. a .shared-slice-known .given i .fits) _ (h .read-head .ensures) _ (c .before .is-permitted .ensures) (c .if2 .left) in
-    let i = head-index (a .before .args .directory .now) (a .before .args .values .now) (λ i l. a .shared-slice-known .given i .fits) _ (h .read-head .ensures) _ (c .before .is-permitted .ensures) (c .if2 .left) in
-    (i, b .1, b .2)
+    head-passed (a .before .args .directory .now) (a .before .args .values .now) (λ i l. a .shared-slice-known .given i .fits) _ (h .read-head .ensures) _ (c .before .is-permitted .ensures) (c .if2 .left)
 
 pub check-spec : {M : Type 1} → statement M
 check-spec =
@@ -43,12 +39,12 @@ check-spec =
     let h = p .before in
     let a = h .before .before .before in
     check-zeros _ _ (λ i l. a .shared-slice-known .given i .fits) _ (h .read-head .ensures) _ (p .is-permitted .ensures) _ (c .before .all-zero .ensures) (c .if3 .taken))
-    (λ c κs. omega (arith, long (c .before .before .before)))
+    (λ c κs. omega (arith, passed (c .before .before .before)))
     (λ c. search needs)
     (λ c. search needs)
     (λ c. search needs)
-    (λ c. omega (arith, long (c .before .before .before .before .before)))
-    (λ c. sym (length-take-le _ _ (long (c .before .before .before .before .before .before .before) .2)))
+    (λ c. omega (arith, passed (c .before .before .before .before .before)))
+    (λ c. sym (length-take-le _ _ (passed (c .before .before .before .before .before .before .before) .values)))
     (λ c κs.
     let e = c .before .before .before in
     let n = e .before .before .before .before in

@@ -1,12 +1,12 @@
 use Prim.Native.Nat.{_-_, _≤_}
 use native.Mathlib.Omega.{arith}
 use borrow.Author.Needs.{needs}
-use Rattle.store.proofs.CheckTurns.{Walked, walked-none, walked-done, slot-refused, slot-short, walked-more}
+use Rattle.store.proofs.PassTurns.{PassedOver, over-none, over-done, slot-refused, slot-short, over-more}
 use Rattle.store.proofs.checks.check_records.Statement.{statement}
 use Rattle.store.proofs.checks.check_records.Tie as tie
 
 abbrev Inv-loop : tie.InvT-loop
-Inv-loop records h f count before₀ total₀ used₀ j₀ before total used j = Walked h f records before total used j
+Inv-loop records h f count before₀ total₀ used₀ j₀ before total used j = PassedOver h f records before total used j
 
 abbrev μ-loop : tie.MeasureT-loop
 μ-loop records h f count before₀ total₀ used₀ j₀ before total used j = h .count - j
@@ -25,7 +25,7 @@ check-records-spec =
     Inv-loop
     μ-loop
     (λ c. search needs)
-    (λ c. walked-none _ _ _)
+    (λ c. over-none _ _ _)
     (λ c. omega arith)
     (λ c κs. search needs)
     (λ c κs. search needs)
@@ -35,5 +35,5 @@ check-records-spec =
     (λ c. omega (arith, short (c .before .before)))
     (λ c. omega arith)
     (λ c. omega arith)
-    (λ c. search walked-more)
-    (λ c. search walked-done))
+    (λ c. search over-more)
+    (λ c. search over-done))

@@ -4,7 +4,8 @@ use mir.Syntax.{w8}
 use lib.ListN.{take}
 use borrow.Author.Needs.{needs, elem-fits}
 use Rattle.octets.proofs.NumberLaws.{Bytes}
-use Rattle.store.proofs.FindLaws.{Wanted, wanted, Halved, halved-none, halved-up, halved-down, halved-found, halved-past}
+use Rattle.octets.proofs.WideLaws.{Widened, widened-take}
+use Rattle.store.proofs.FindLaws.{Halved, halved-none, halved-up, halved-down, halved-found, halved-past}
 use Rattle.store.proofs.finds.find.Statement.{statement}
 use Rattle.store.proofs.finds.find.Tie as tie
 
@@ -17,11 +18,11 @@ abbrev μ-loop : tie.MeasureT-loop
 bytes : (c : tie.After-shared-slice-known Inv-loop μ-loop) → Bytes (c .before .args .records .now)
 bytes c = λ i l. c .shared-slice-known .given i .fits
 
-key : (c : tie.After-wide-key Inv-loop μ-loop) → Wanted (take (c .before .before .args .len) (c .before .before .args .key)) (c .wide-key .result)
+key : (c : tie.After-wide-key Inv-loop μ-loop) → Widened (c .wide-key .result) (take (c .before .before .args .len) (c .before .before .args .key))
 key c =
     let a = c .before .before .args in
     let g = c .before .before .good .1 .1 .0 in
-    wanted (a .key) (a .len) (c .wide-key .result) (λ i l. elem-fits w8 w8 (a .key) (g .0) i (g .1 .1) tt .fits) (g .1 .0 .1) (c .wide-key .ensures) (omega arith)
+    widened-take (a .len) (a .key) (c .wide-key .result) (λ i l. elem-fits w8 w8 (a .key) (g .0) i (g .1 .1) tt .fits) (g .1 .0 .1) (omega arith) (c .wide-key .ensures)
 
 pub find-spec : {M : Type 1} → statement M
 find-spec =

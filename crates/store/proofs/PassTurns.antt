@@ -14,37 +14,37 @@ use Rattle.octets.proofs.TestLaws.{all-true}
 use Rattle.store.specs.declared.formats.Format.{Format}
 use Rattle.store.specs.declared.heads.Head.{Head}
 use Rattle.store.specs.declared.checks.Slot.{Slot}
-use Rattle.store.specs.Checks.{noSums, slotIn, slotTests, firstWide, walk}
+use Rattle.store.specs.Checks.{noSums, slotIn, slotTests, firstWide, passOver}
 
 -- the invariant: j records are passed, with these sums, and w is the last key
-pub record Walked (h : Head) (f : Format) (s : List ℕ) (w : Wide) (total used j : ℕ) : Type 0 where
+pub record PassedOver (h : Head) (f : Format) (s : List ℕ) (w : Wide) (total used j : ℕ) : Type 0 where
   pub within : j ≤ h .count
   pub total-small : total ≤ 4096 * j
   pub used-small : used ≤ 4112 * j
-  pub is : walk (h .count - j) h f total used w (drop (32 * j) s) ≡ walk (h .count) h f 0 0 firstWide s
+  pub is : passOver (h .count - j) h f total used w (drop (32 * j) s) ≡ passOver (h .count) h f 0 0 firstWide s
 
-pub walked-none : (h : Head) (f : Format) (s : List ℕ) → Walked h f s firstWide 0 0 0
-walked-none h f s = record { within = omega arith; total-small = omega arith; used-small = omega arith; is = rw sub-zero }
+pub over-none : (h : Head) (f : Format) (s : List ℕ) → PassedOver h f s firstWide 0 0 0
+over-none h f s = record { within = omega arith; total-small = omega arith; used-small = omega arith; is = rw sub-zero }
 
-pub walked-done : {h : Head} {f : Format} {s : List ℕ} {w : Wide} {total used j : ℕ} → Walked h f s w total used j → h .count ≤ j
-    → record { ok = true; total = total; used = used } ≡ walk (h .count) h f 0 0 firstWide s
-unfolding walk
-walked-done {h} {f} {s} {w} {total} {used} {j} i l =
+pub over-done : {h : Head} {f : Format} {s : List ℕ} {w : Wide} {total used j : ℕ} → PassedOver h f s w total used j → h .count ≤ j
+    → record { ok = true; total = total; used = used } ≡ passOver (h .count) h f 0 0 firstWide s
+unfolding passOver
+over-done {h} {f} {s} {w} {total} {used} {j} i l =
     let e : h .count - j ≡ 0 = omega arith in
     rw e at (i .is)
 
 -- the record of slot j
-module _ {h : Head} {f : Format} {s : List ℕ} {w : Wide} {total used j : ℕ} (i : Walked h f s w total used j) (l : j < h .count)
+module _ {h : Head} {f : Format} {s : List ℕ} {w : Wide} {total used j : ℕ} (i : PassedOver h f s w total used j) (l : j < h .count)
     (r : Slot) (e : r ≡ slotIn (drop (32 * j) s)) (ok : Bool) (t : ok ≡ all (slotTests h f total w r)) where
-  turn : walk (h .count) h f 0 0 firstWide s
-      ≡ cond ok (walk (h .count - (j + 1)) h f (total + r .size) (used + (r .length + r .size)) (r .key) (drop (32 * (j + 1)) s)) noSums
-  unfolding walk
+  turn : passOver (h .count) h f 0 0 firstWide s
+      ≡ cond ok (passOver (h .count - (j + 1)) h f (total + r .size) (used + (r .length + r .size)) (r .key) (drop (32 * (j + 1)) s)) noSums
+  unfolding passOver
   turn =
       let n : h .count - j ≡ suc (h .count - (j + 1)) = omega arith in
       let d : 32 * j + 32 ≡ 32 * (j + 1) = omega arith in
       sym (i .is) ∙ rw (n, ← e, ← t, drop-drop 32 (32 * j) s, d)
 
-  pub slot-refused : not ok ≡ true → noSums ≡ walk (h .count) h f 0 0 firstWide s
+  pub slot-refused : not ok ≡ true → noSums ≡ passOver (h .count) h f 0 0 firstWide s
   slot-refused q = sym (rw (not-true ok q) at turn)
 
   module _ (q : not ok ≡ false) where
@@ -53,7 +53,7 @@ module _ {h : Head} {f : Format} {s : List ℕ} {w : Wide} {total used j : ℕ} 
         let a = all-true (slotTests h f total w r) (sym t ∙ not-false ok q) in
         (leb-true _ _ (a .1 .0), leb-true _ _ (a .1 .1 .0))
 
-    pub walked-more : f .keymax ≤ 16 → f .valuemax ≤ 4096 → Walked h f s (r .key) (total + r .size) (used + (r .length + r .size)) (j + 1)
-    walked-more k v =
+    pub over-more : f .keymax ≤ 16 → f .valuemax ≤ 4096 → PassedOver h f s (r .key) (total + r .size) (used + (r .length + r .size)) (j + 1)
+    over-more k v =
         let b = slot-short in
         record { within = omega arith; total-small = omega arith; used-small = omega arith; is = sym (rw (not-false ok q) at turn) }

@@ -1,6 +1,6 @@
 -- Zeros behind a key, by its two big-endian numbers. Assumes nothing.
 use mathlib.Core.Path.{_≡_, refl, sym, ap, _∙_}
-use mathlib.Core.Bool.{Bool, true, false, _&&_, and-assoc, and-comm, and-true}
+use mathlib.Core.Bool.{Bool, true, false, _&&_, and-comm, and-true}
 use mathlib.Core.List.{List, [], _∷_, _++_}
 use Prim.Native.Nat.{ℕ, zero, suc, _+_, _-_, _*_, _%_, _^_, _≤_, _<_}
 use native.Mathlib.Nat.{zero-add, zero-mul, add-assoc, add-mul, mul-assoc, mul-le-mul-right, mul-add-mod-self-right}
@@ -10,12 +10,12 @@ use lib.Pow.{pow-pos, pow-add, shl-exact}
 use lib.ListN.{length, take, drop, length-drop, take-append-drop, drop-of-length-le}
 use lib.Seq.{drop-append-le}
 use borrow.Author.Tests.{ne-eqb, ltb-true, ltb-false}
 use Rattle.octets.specs.Octets.{part, allZero}
-use Rattle.octets.specs.Keys.{big, bigFrom, wideOf}
-use Rattle.octets.proofs.PartLaws.{length-part, part-two, part-whole}
-use Rattle.octets.proofs.NumberLaws.{Bytes, bytes-part}
-use Rattle.store.specs.Checks.{clearWide}
-use Rattle.store.proofs.OctetLaws.{drop-past, bytes-drop}
+use Rattle.octets.specs.Keys.{big, bigFrom, wideOf, clearWide}
+use Rattle.octets.proofs.PartLaws.{length-part, drop-past}
+use Rattle.octets.proofs.ZeroLaws.{zero-append}
+use Rattle.octets.proofs.WideLaws.{halves}
+use Rattle.octets.proofs.NumberLaws.{Bytes, bytes-part, bytes-drop}
 
 big-append : (m : ℕ) (xs ys : List ℕ) → bigFrom m (xs ++ ys) ≡ bigFrom (bigFrom m xs) ys
 big-append m [] ys = refl
@@ -72,10 +72,6 @@ shift-clear n xs b l =
     (shl-exact k (8 * n) (k + 8 * n) low (omega arith)) in
     rw (x, times-zero (bigFrom 0 d) (8 * n)) (big-zero 0 d)
 
-zero-append : (xs ys : List ℕ) → allZero (xs ++ ys) ≡ (allZero xs && allZero ys)
-zero-append [] ys = refl
-zero-append (x ∷ xs) ys = rw (zero-append xs ys) (sym (and-assoc (eqb x 0) (allZero xs) (allZero ys)))
-
 zero-big : (ys : List ℕ) → eqb (big ys) 0 ≡ allZero ys
 unfolding big
 zero-big ys = big-zero 0 ys
@@ -84,9 +80,6 @@ eight : (n : ℕ) (ys : List ℕ) → Bytes ys → length ys ≡ 8 → n ≤ 8 �
 eight n ys b l h = rw l at (shift-clear n ys b (omega arith))
 
 module _ (n : ℕ) (xs : List ℕ) (b : Bytes xs) (l : length xs ≡ 16) where
-  two : xs ≡ part 0 8 xs ++ part 8 8 xs
-  two = sym (part-whole 16 xs l) ∙ part-two 0 8 8 xs
-
   front : length (part 0 8 xs) ≡ 8
   front = length-part 0 8 xs (omega arith)
 
@@ -94,13 +87,13 @@ module _ (n : ℕ) (xs : List ℕ) (b : Bytes xs) (l : length xs ≡ 16) where
   low h =
       rw (zero-big (part 8 8 xs), eight n (part 0 8 xs) (bytes-part 0 8 xs b (omega arith)) front (omega arith))
       (and-comm (allZero (part 8 8 xs)) (allZero (drop n (part 0 8 xs)))
-      ∙ sym (ap (λ (ys : List ℕ). allZero (drop n ys)) two ∙ ap allZero (drop-append-le n (part 0 8 xs) (part 8 8 xs) (omega (arith, front))) ∙ zero-append (drop n (part 0 8 xs)) (part 8 8 xs)))
+      ∙ sym (ap (λ (ys : List ℕ). allZero (drop n ys)) (halves xs l) ∙ ap allZero (drop-append-le n (part 0 8 xs) (part 8 8 xs) (omega (arith, front))) ∙ zero-append (drop n (part 0 8 xs)) (part 8 8 xs)))
 
   high : 8 ≤ n → n ≤ 16 → eqb (big (part 8 8 xs) * 2 ^ (8 * (n - 8)) % 2 ^ 64) 0 ≡ allZero (drop n xs)
   high h k =
       let m : n ≡ 8 + (n - 8) = omega arith in
       eight (n - 8) (part 8 8 xs) (bytes-part 8 8 xs b (omega arith)) (length-part 8 8 xs (omega arith)) (omega arith)
-      ∙ sym (ap (λ (j : ℕ). allZero (drop j xs)) m ∙ ap (λ (ys : List ℕ). allZero (drop (8 + (n - 8)) ys)) two ∙ ap allZero (drop-past (part 0 8 xs) (part 8 8 xs) 8 (n - 8) front))
+      ∙ sym (ap (λ (j : ℕ). allZero (drop j xs)) m ∙ ap (λ (ys : List ℕ). allZero (drop (8 + (n - 8)) ys)) (halves xs l) ∙ ap allZero (drop-past (part 0 8 xs) (part 8 8 xs) 8 (n - 8) front))
 
   pub clear-wide : n ≤ 16 → clearWide (wideOf xs n) ≡ allZero (drop n xs)
   unfolding clearWide wideOf

@@ -1,28 +1,27 @@
--- One record: its tests as named facts, the pair that stands in it, and what stands in the record of a pair. Assumes nothing.
+-- One record under the pass: its tests as named facts, and the pair that stands in it. Assumes nothing.
 use mathlib.Core.Path.{_≡_, sym, ap, _∙_}
 use mathlib.Core.Bool.{Bool, true}
-use mathlib.Core.List.{List, _++_, append-assoc}
-use Prim.Native.Nat.{ℕ, _+_, _^_, _≤_, _<_}
+use mathlib.Core.List.{List, _++_}
+use Prim.Native.Nat.{ℕ, _≤_}
 use native.Mathlib.Omega.{arith}
 use lib.ListN.{length, take, drop}
-use lib.Seq.{length-take-le, take-at}
+use lib.Seq.{length-take-le}
 use borrow.Author.Tests.{leb-true, eqb-true, le-leb, eq-eqb}
 use Rattle.octets.specs.declared.keys.Wide.{Wide}
-use Rattle.octets.specs.Octets.{part, number, bytes, filled, allZero}
-use Rattle.octets.specs.Keys.{isLess, wideOf, orderWide}
+use Rattle.octets.specs.Octets.{part, number, bytes, allZero}
+use Rattle.octets.specs.Keys.{isLess, wideOf, orderWide, clearWide}
 use Rattle.octets.specs.Tests.{all}
 use Rattle.octets.proofs.PartLaws.{length-part, part-two}
-use Rattle.octets.proofs.NumberLaws.{Bytes, number-bytes, bytes-part}
+use Rattle.octets.proofs.NumberLaws.{Bytes, bytes-part, bytes-in}
 use Rattle.octets.proofs.TestLaws.{all-true}
-use Rattle.octets.proofs.ZeroLaws.{length-filled}
+use Rattle.octets.proofs.PadLaws.{part-filled}
+use Rattle.octets.proofs.ClearLaws.{clear-wide}
 use Rattle.store.specs.declared.heads.Head.{Head}
 use Rattle.store.specs.Formats.{formatOf}
-use Rattle.store.specs.Maps.{Pair, pair}
+use Rattle.store.specs.Maps.{pair}
 use Rattle.store.specs.Image.{recordOf}
-use Rattle.store.specs.Checks.{slotIn, clearWide, slotTests}
+use Rattle.store.specs.Checks.{slotIn, slotTests}
 use Rattle.store.proofs.SpaceLaws.{format-bounds}
-use Rattle.store.proofs.ClearLaws.{clear-wide}
-use Rattle.store.proofs.OctetLaws.{drop-past, bytes-in, filled-part}
 
 -- the length of the key and of the value in the record at the front of s
 abbrev pub keyLength : List ℕ → ℕ
@@ -85,42 +84,12 @@ module _ (s a b c d e : List ℕ) (ea : a ≡ part 0 16 s) (eb : b ≡ part 16 4
 -- bytes that pass are the record of the pair that stands in them
 pub record-is : (h : Head) (t : ℕ) (w : Wide) (s vs : List ℕ) → Passed h t w s → Bytes s → 32 ≤ length s → keyLength s ≤ 16
     → valueLength s ≤ length vs → recordOf (h .id) t (pair (take (keyLength s) s) (take (valueLength s) vs)) ≡ part 0 32 s
-unfolding recordOf
+unfolding recordOf part
 record-is h t w s vs p b l m v =
     let lk : length (take (keyLength s) s) ≡ keyLength s = length-take-le _ s (omega arith) in
     let lv : length (take (valueLength s) vs) ≡ valueLength s = length-take-le _ vs v in
-    five s _ _ _ _ _ (filled-part 16 (keyLength s) s (omega arith) m (p .padded))
+    five s _ _ _ _ _ (sym (part-filled 0 (keyLength s) 16 s (omega arith) m (p .padded)))
     (ap (bytes 4) lk ∙ bytes-in 16 4 s b (omega arith))
     (ap (bytes 4) (sym (p .stands)) ∙ bytes-in 20 4 s b (omega arith))
     (ap (bytes 4) lv ∙ bytes-in 24 4 s b (omega arith))
     (ap (bytes 4) (sym (p .owned)) ∙ bytes-in 28 4 s b (omega arith))
-
--- what stands in the record of a pair
-module _ (id at : ℕ) (p : Pair) (short : length (p .key) ≤ 16) (x : List ℕ) where
-  abbrev behind : List ℕ
-  behind = bytes 4 (length (p .key)) ++ (bytes 4 at ++ (bytes 4 (length (p .value)) ++ (bytes 4 id ++ x)))
-
-  opened : recordOf id at p ++ x ≡ filled 16 (p .key) ++ behind
-  unfolding recordOf
-  opened = simp append-assoc
-
-  past : (n : ℕ) → drop (16 + n) (recordOf id at p ++ x) ≡ drop n behind
-  past n = rw opened (drop-past (filled 16 (p .key)) behind 16 n (length-filled 16 (p .key) short))
-
-  pub sixteen : part 0 16 (recordOf id at p ++ x) ≡ filled 16 (p .key)
-  unfolding part
-  sixteen = rw opened (take-at (filled 16 (p .key)) behind 16 (length-filled 16 (p .key) short))
-
-  pub numbers : at < 2 ^ 32 → length (p .value) < 2 ^ 32 → id < 2 ^ 32
-      → (number (part 16 4 (recordOf id at p ++ x)) ≡ length (p .key)) × (number (part 20 4 (recordOf id at p ++ x)) ≡ at)
-      × (number (part 24 4 (recordOf id at p ++ x)) ≡ length (p .value)) × (number (part 28 4 (recordOf id at p ++ x)) ≡ id)
-  unfolding part
-  numbers a b c = (
-    ap (λ (ys : List ℕ). number (take 4 ys)) (past 0) ∙ number-bytes 4 (length (p .key)) (omega arith),
-    ap (λ (ys : List ℕ). number (take 4 ys)) (past 4) ∙ number-bytes 4 at a,
-    ap (λ (ys : List ℕ). number (take 4 ys)) (past 8) ∙ number-bytes 4 (length (p .value)) b,
-    ap (λ (ys : List ℕ). number (take 4 ys)) (past 12) ∙ number-bytes 4 id c,
-  )
-
-  pub rest : drop 32 (recordOf id at p ++ x) ≡ x
-  rest = past 16

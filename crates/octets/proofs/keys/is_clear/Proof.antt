@@ -1,8 +1,8 @@
 use borrow.Author.Needs.{needs}
 use borrow.Author.Tests.{lt-ltb, le-ltb}
-use Rattle.store.specs.Checks.{clearWide}
-use Rattle.store.proofs.checks.is_clear.Statement.{statement}
-use Rattle.store.proofs.checks.is_clear.Tie as tie
+use Rattle.octets.specs.Keys.{clearWide}
+use Rattle.octets.proofs.keys.is_clear.Statement.{statement}
+use Rattle.octets.proofs.keys.is_clear.Tie as tie
 
 pub is-clear-spec : {M : Type 1} → statement M
 unfolding clearWide
