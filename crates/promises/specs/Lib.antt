@@ -1,1 +1,4 @@
 pub mod Cases
+pub mod Agreement
+pub mod Unique
+pub mod StandIns

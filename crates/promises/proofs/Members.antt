@@ -1,0 +1,30 @@
+-- Each kind of stand-in has a device, so that what rejects the kind rejects something. Assumes nothing.
+use mathlib.Core.Path.{refl}
+use mathlib.Core.List.{[]}
+use Prim.Native.Nat.{ℕ, _^_, _<_}
+use native.Mathlib.Omega.{arith}
+use lib.ListN.{drop}
+use Rattle.octets.specs.Octets.{part, put}
+use Rattle.octets.proofs.NumberLaws.{number-bytes}
+use Rattle.wire.specs.Page.{page}
+use Rattle.wire.proofs.PageLaws.{page-back}
+use Rattle.module.specs.History.{commanding, run}
+use Rattle.promises.specs.StandIns.{Says, Leaves, Idles, Counts, Empties, saying, leaving, idling, counting}
+use Rattle.promises.proofs.RunLaws.{status-back}
+
+pub saying-says : (st : ℕ) → st < 256 → Says st (saying st)
+saying-says st h before m p e c b done = status-back _ h (omega arith)
+
+pub leaving-leaves : Leaves leaving
+leaving-leaves before m p e c b = refl
+
+pub idling-idles : Idles idling
+idling-idles x before m p e c b = status-back _ (omega arith) (omega arith)
+
+pub counting-counts : (n : ℕ) → n < 256 ^ 4 → Counts n (counting n)
+unfolding put part
+counting-counts n h before m p e c b is ok = number-bytes 4 n h
+
+pub counting-empties : Empties (counting 0)
+unfolding put page
+counting-empties before m p e c b is ok = page-back [] (drop 4 (run m (commanding p e c b) .after .buffer)) (omega arith) tt tt
