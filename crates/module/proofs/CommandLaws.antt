@@ -44,7 +44,7 @@ over-holds s m w = record { within = w; image = image-put s (m .directory) (m .v
 
 -- ---- a read command
 
-entry-key : (e : List ℕ) → length e ≡ 64 → length (readCommand e .key) ≡ 16
+pub entry-key : (e : List ℕ) → length e ≡ 64 → length (readCommand e .key) ≡ 16
 unfolding readCommand part
 entry-key e h = simp (length-append, length-take, length-drop) (omega arith)
 

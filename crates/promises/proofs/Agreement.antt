@@ -2,9 +2,9 @@
 use mathlib.Core.Path.{_≡_, refl, sym, ap, _∙_}
 use mathlib.Core.Bool.{Bool, true, false, cond, _||_}
 use mathlib.Core.List.{List, [], _∷_}
-use Prim.Native.Nat.{ℕ, _+_, _^_, _≤_, _<_}
+use Prim.Native.Nat.{ℕ, _^_, _≤_, _<_}
 use native.Mathlib.Omega.{arith}
-use lib.ListN.{length, drop, getD}
+use lib.ListN.{length, getD}
 use lib.Dec.{eqb}
 use borrow.Author.Tests.{eq-eqb, eqb-true}
 use Rattle.octets.specs.declared.keys.Order.{Order}
@@ -18,7 +18,6 @@ use Rattle.wire.specs.Entry.{readCommand, keyOf, isStore, isRetrieve, isList, i
 use Rattle.wire.specs.Page.{page, Reading, readPage}
 use Rattle.wire.specs.Page as Page
 use Rattle.wire.proofs.EntryLaws.{length-command}
-use Rattle.wire.proofs.PageLaws.{page-back}
 use Rattle.store.specs.Formats.{formatOf}
 use Rattle.store.specs.Maps.{Pair, keys, valueOf}
 use Rattle.store.specs.Space.{Space, within}
@@ -36,7 +35,7 @@ use Rattle.host.specs.PageKey.{given, pageKey}
 use Rattle.host.proofs.BuildLaws.{build-0, build-key, build-read}
 use Rattle.host.proofs.ReplyLaws.{reply-back}
 use Rattle.promises.specs.Agreement.{Ask, builds, Askable, Asked, Postable, posted}
-use Rattle.promises.proofs.ShownLaws.{shown-rising, shown-sized, shown-few}
+use Rattle.promises.proofs.ShownLaws.{shown-read, pageable, keys-few}
 
 -- ---- an entry that was built
 
@@ -169,11 +168,9 @@ call-agrees e a p l h g w v =
 -- the host reads the keys that the List shows, and whatever lies behind the page in the buffer changes nothing
 pub page-agrees : (s : Space) (n : ℕ) (k : Key) (b : List ℕ) → within s ≡ true
     → readPage (put 0 (page (shown n k (keys (s .pairs)))) b) ≡ Page.keys (shown n k (keys (s .pairs)))
-unfolding put
 page-agrees s n k b e =
     let w = within-true s e in
-    let ks = shown n k (keys (s .pairs)) in
-    page-back ks (drop (0 + length (page ks)) b) (omega (arith, shown-few s w n k)) (shown-rising s w n k) (shown-sized s w n k)
+    shown-read n k (keys (s .pairs)) b (keys-few s w) (pageable s w)
 
 -- the count, and key by key, with number 0
 pub page-key-agrees : (s : Space) (n : ℕ) (k : Key) (b : List ℕ) (o : ℕ) → within s ≡ true

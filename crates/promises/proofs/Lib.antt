@@ -1,10 +1,15 @@
--- What host and module promise together, over the definitions of `specs/`.
-pub mod ShownLaws
+-- The theorems: over histories, of host and module together, of each contract, and of the stand-ins; the other files serve them.
+pub mod History
+pub mod Walk
+pub mod Retrieve
 pub mod Agreement
 pub mod Unique
 pub mod UniqueBytes
 pub mod UniqueStore
 pub mod UniqueWritten
-pub mod RunLaws
 pub mod StandIns
 pub mod Members
+mod RequestLaws
+mod ShownLaws
+mod RunLaws
+mod Examples

@@ -1,87 +1,95 @@
--- The keys that a List shows are a beginning of the keys from the given one on, so they rise and are sized as the map's keys are.
--- Assumes nothing.
+-- A page shows a beginning of the keys from the given one on, and a host reads those keys back. Assumes nothing.
 use mathlib.Core.Path.{_≡_, refl, ap}
 use mathlib.Core.Bool.{Bool, true, false}
 use mathlib.Core.List.{List, [], _∷_, _++_}
-use Prim.Native.Nat.{ℕ, _-_, _≤_}
+use Prim.Native.Nat.{ℕ, _+_, _-_, _^_, _≤_, _<_}
 use native.Mathlib.Omega.{arith}
-use lib.ListN.{length, length-append}
 use lib.Dec.{leb}
-use Rattle.octets.specs.declared.keys.Order.{Order}
-use Rattle.octets.specs.declared.keys.Order.the-variants.{Less, Equal, Greater}
-use Rattle.octets.specs.Keys.{Key, order, from}
-use Rattle.octets.proofs.OrderLaws.{Rising}
-use Rattle.wire.specs.Page.{entrySize, fits}
-use Rattle.wire.proofs.PageLaws.{Sized}
-use Rattle.store.specs.Maps.{Pair, keys}
-use Rattle.store.specs.Space.{Space}
+use lib.ListN.{length, take, drop, length-append, length-drop, take-append-drop}
 use Rattle.store.proofs.SpaceLaws.{Admitted, Within, format-bounds}
+use Rattle.store.specs.Maps as Maps
+use Rattle.store.specs.Maps.{Pair}
+use Rattle.store.specs.Space.{Space}
+use Rattle.octets.specs.Octets.{put}
+use Rattle.octets.specs.Keys.{Key, from}
+use Rattle.octets.proofs.OrderLaws.{Below, Rising, order-self, below-trans, below-greater}
+use Rattle.wire.specs.Page.{entrySize, page, fits, keys, readPage}
+use Rattle.wire.proofs.PageLaws.{Sized, page-back}
+use Rattle.wire.proofs.FitLaws.{fits-next}
+use Rattle.store.specs.Finds.{rank}
+use Rattle.store.proofs.RankLaws.{from-rank, length-keys}
 use Rattle.module.specs.Answer.{shown}
 
--- ---- a beginning of what is to be shown
+-- ---- keys that a page can hold, and parts of them
 
-pub fits-beginning : (r : ℕ) (ks : List Key) → (rest : List Key) × (fits r ks ++ rest ≡ ks)
-fits-beginning r [] = ([], refl)
-fits-beginning r (k ∷ ks) = go (leb (entrySize (length k)) r) refl (fits-beginning (r - entrySize (length k)) ks)
+abbrev pub Pageable : List Key → Type 0
+Pageable ks = Rising ks × Sized ks
+
+pub pageable-left : (js ks : List Key) → Pageable (js ++ ks) → Pageable js
+pageable-left [] ks g = (tt, tt)
+pageable-left (j ∷ []) ks g = ((tt, tt), (g .1 .0, g .1 .1, tt))
+pageable-left (j ∷ i ∷ js) ks g =
+    let r = pageable-left (i ∷ js) ks (g .0 .1, g .1 .2) in
+    ((g .0 .0, r .0), (g .1 .0, g .1 .1, r .1))
+
+pub pageable-right : (js ks : List Key) → Pageable (js ++ ks) → Pageable ks
+pageable-right [] ks g = g
+pageable-right (j ∷ js) ks g = pageable-right js ks (g .0 .1, g .1 .2)
+
+-- ---- the keys that fit
+
+pub fits-begins : (r : ℕ) (ks : List Key) → (rest : List Key) × (fits r ks ++ rest ≡ ks)
+fits-begins r [] = ([], refl)
+fits-begins r (k ∷ ks) = go (leb (entrySize (length k)) r) refl (fits-begins (r - entrySize (length k)) ks)
   where
     go : (b : Bool) → leb (entrySize (length k)) r ≡ b → (rest : List Key) × (fits (r - entrySize (length k)) ks ++ rest ≡ ks)
         → (rest : List Key) × (fits r (k ∷ ks) ++ rest ≡ k ∷ ks)
     go true e i = (i .0, rw e (ap (λ (l : List Key). k ∷ l) (i .1)))
     go false e i = (k ∷ ks, rw e)
 
-pub shown-beginning : (n : ℕ) (k : Key) (ks : List Key) → (rest : List Key) × (shown n k ks ++ rest ≡ from k ks)
-shown-beginning n k ks = fits-beginning (n - 4) (from k ks)
+-- an entry has at most 20 bytes, so where there are 20 a page stops only at the end
+pub fits-none : (r : ℕ) (ks : List Key) → Sized ks → 20 ≤ r → fits r ks ≡ [] → ks ≡ []
+fits-none r [] s h e = refl
+fits-none r (k ∷ ks) s h e = cc (fits-next r k ks (omega (arith, s .1)))
 
-rising-left : (js ks : List Key) → Rising (js ++ ks) → Rising js
-rising-left [] ks r = tt
-rising-left (j ∷ []) ks r = (tt, tt)
-rising-left (j ∷ i ∷ js) ks r = (r .0, rising-left (i ∷ js) ks (r .1))
+-- ---- from a key on
 
-sized-left : (js ks : List Key) → Sized (js ++ ks) → Sized js
-sized-left [] ks s = tt
-sized-left (j ∷ js) ks s = (s .0, s .1, sized-left js ks (s .2))
+pub from-empty : (ks : List Key) → from [] ks ≡ ks
+from-empty [] = refl
+from-empty ([] ∷ ks) = refl
+from-empty ((x ∷ k) ∷ ks) = refl
 
--- ---- what holds of keys, and of the keys after the first, holds from any key on
-
-from-tail : (P : List Key → Type 0) → ((k : Key) (ks : List Key) → P (k ∷ ks) → P ks) → (k : Key) (ks : List Key) → P ks → P (from k ks)
-from-tail P tail k [] p = p
-from-tail P tail k (j ∷ ks) p = go (order k j) refl (from-tail P tail k ks (tail j ks p))
+pub from-stored : (js : List Key) (k : Key) (ks : List Key) → Rising (js ++ k ∷ ks) → from k (js ++ k ∷ ks) ≡ k ∷ ks
+from-stored [] k ks r = rw (order-self k)
+from-stored (j ∷ js) k ks r = rw (below-greater j k (before j js r)) (from-stored js k ks (r .1))
   where
-    go : (o : Order) → order k j ≡ o → P (from k ks) → P (from k (j ∷ ks))
-    go Less e r = rw e p
-    go Equal e r = rw e p
-    go Greater e r = rw e r
+    before : (j : Key) (js : List Key) → Rising (j ∷ js ++ k ∷ ks) → Below j k
+    before j [] r = r .0
+    before j (i ∷ js) r = below-trans j i k (r .0) (before i js (r .1))
 
--- ---- the keys shown of a map within its limits
+-- ---- what is read of a page put into a data buffer
 
-keys-sized : (i : ℕ) (m : List Pair) → i ≤ 15 → Admitted i m → Sized (keys m)
-keys-sized i [] h a = tt
-keys-sized i (p ∷ m) h a = (a .0, omega (arith, a .1, format-bounds i h .0), keys-sized i m h (a .3))
+pub shown-read : (n : ℕ) (k : Key) (ks : List Key) (b : List ℕ) → length ks < 256 ^ 4 → Pageable ks
+    → readPage (put 0 (page (shown n k ks)) b) ≡ keys (shown n k ks)
+unfolding put
+shown-read n k ks b few g =
+    let r = rank k ks in
+    let part = fits-begins (n - 4) (from k ks) in
+    let tail : Pageable (from k ks) = rw (from-rank k ks) (pageable-right (take r ks) (drop r ks) (rw (take-append-drop r ks) g)) in
+    let head = pageable-left (shown n k ks) (part .0) (rw (part .1) tail) in
+    let all : length (from k ks) ≤ length ks = rw (from-rank k ks, length-drop r ks) (omega arith) in
+    let many : length (shown n k ks) + length (part .0) ≡ length (from k ks) = simp length-append at (ap length (part .1)) in
+    page-back (shown n k ks) (drop (0 + length (page (shown n k ks))) b) (omega arith) (head .0) (head .1)
 
-length-keys : (m : List Pair) → length (keys m) ≡ length m
-length-keys [] = refl
-length-keys (p ∷ m) = rw (length-keys m)
+-- ---- the keys of a map within the limits
 
-module _ (s : Space) (w : Within s) (n : ℕ) (k : Key) where
-  abbrev listed : List Key
-  listed = shown n k (keys (s .pairs))
+admitted-sized : (i : ℕ) (m : List Pair) → i ≤ 15 → Admitted i m → Sized (Maps.keys m)
+admitted-sized i [] h a = tt
+admitted-sized i (p ∷ m) h a = (a .0, omega (arith, format-bounds i h .0), admitted-sized i m h (a .3))
 
-  pub shown-rising : Rising listed
-  shown-rising =
-      let b = shown-beginning n k (keys (s .pairs)) in
-      rising-left listed (b .0) (rw (b .1) (from-tail Rising (λ j l q. q .1) k (keys (s .pairs)) (w .rising)))
+-- what a map within the limits holds
+pub pageable : (s : Space) → Within s → Pageable (Maps.keys (s .pairs))
+pageable s w = (w .rising, admitted-sized (s .index) (s .pairs) (w .permits .index) (w .admitted))
 
-  pub shown-sized : Sized listed
-  shown-sized =
-      let b = shown-beginning n k (keys (s .pairs)) in
-      let a = keys-sized (s .index) (s .pairs) (w .permits .index) (w .admitted) in
-      sized-left listed (b .0) (rw (b .1) (from-tail Sized (λ j l q. q .2) k (keys (s .pairs)) a))
-
-  -- no more than the formats allow
-  pub shown-few : length listed ≤ 1024
-  shown-few =
-      let b = shown-beginning n k (keys (s .pairs)) in
-      let few : length (keys (s .pairs)) ≤ 1024 =
-      omega (arith, length-keys (s .pairs), w .count, format-bounds (s .index) (w .permits .index) .2) in
-      let rest = from-tail (λ l. length l ≤ 1024) (λ j l q. omega arith) k (keys (s .pairs)) few in
-      omega (arith, rest, simp length-append at (ap length (b .1)))
+pub keys-few : (s : Space) → Within s → length (Maps.keys (s .pairs)) < 256 ^ 4
+keys-few s w = omega (arith, length-keys (s .pairs), w .count, format-bounds (s .index) (w .permits .index))

@@ -1,0 +1,52 @@
+-- The small stores and calls that the instances beside the theorems compute with. Assumes nothing.
+use mathlib.Core.Path.{_≡_, refl}
+use mathlib.Core.List.{List, [], _∷_, _++_}
+use Prim.Native.Nat.{ℕ}
+use lib.ListN.{length, replicate}
+use Rattle.octets.specs.Octets.{zeros, filled}
+use Rattle.octets.specs.Keys.{Key}
+use Rattle.wire.specs.Entry.{writeCommand}
+use Rattle.store.specs.Space.{formatSteps}
+use Rattle.module.specs.Formatting.{memory, format}
+use Rattle.module.specs.Command.{post}
+use Rattle.module.specs.History.{Call, formatting, commanding}
+use Rattle.promises.specs.Histories.{Start, begun}
+use Rattle.promises.specs.Requests.{Request, call}
+
+-- format 15, id 1, size 64, on bytes that are all b, one more in each slice than is needed
+abbrev pub start : ℕ → Start
+start b = record { index = 15; id = 1; size = 64; lent = memory (replicate 577 b) (replicate 65 b) }
+
+pub start-begun : (b : ℕ) → begun (start b) .number ≡ 0
+unfolding format formatSteps
+start-begun b = refl
+
+-- opcode op, key k, n in Dword 10
+abbrev pub request : ℕ → Key → ℕ → List ℕ → Request
+request op k n b =
+    record {
+      post = post 0 0 0;
+      entry = writeCommand (record { opcode = op; fused = 0; cid = 0; nsid = 1; key = filled 16 k; len = length k; options = 0; amount = n });
+      completion = zeros 16;
+      buffer = b;
+    }
+
+abbrev pub A : Key
+A = 0x41 ∷ []
+
+abbrev pub B : Key
+B = 0x42 ∷ []
+
+-- sixteen bytes, the last of them n
+abbrev pub key : ℕ → Key
+key n = replicate 15 0 ++ n ∷ []
+
+abbrev pub store : Key → List ℕ → Request
+store k v = request 0x01 k (length v) v
+
+abbrev pub exist : Key → Request
+exist k = request 0x14 k 0 []
+
+-- refused: by number 1, by number 3, and a Store by step j
+abbrev pub vain : List Call
+vain = commanding (post 0 0 0) [] [] [] ∷ formatting 16 1 64 ∷ call (store B (replicate 64 0)) ∷ []

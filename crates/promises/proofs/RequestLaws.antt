@@ -1,0 +1,56 @@
+-- What is known of a request that nothing before step i refuses: the later rows decide its status. Assumes nothing.
+use mathlib.Core.Path.{_≡_, refl, sym, ap, _∙_}
+use mathlib.Core.Bool.{true}
+use mathlib.Core.List.{List, [], _∷_, _++_}
+use Prim.Native.Nat.{_^_, _<_}
+use lib.ListN.{length, take, drop}
+use borrow.Author.Tests.{eqb-true, not-false}
+use Rattle.octets.specs.Tests.{Row, firstOf}
+use Rattle.octets.proofs.TestLaws.{None, none-holds}
+use Rattle.wire.specs.Entry.{notEntry}
+use Rattle.wire.specs.Completion.{notCompletion}
+use Rattle.store.specs.Space.{Space}
+use Rattle.module.specs.Steps.{viewOf, steps, statusOf}
+use Rattle.module.specs.Answer.{Answer, answer}
+use Rattle.module.specs.Formatting.{Memory}
+use Rattle.module.proofs.AnswerLaws.{answer-status}
+use Rattle.module.proofs.CommandLaws.{Holds}
+use Rattle.module.proofs.HistoryLaws.{call-number, call-status, call-dword0, call-buffer}
+use Rattle.promises.specs.Requests.{Request, sends, asked, refusal, Gives}
+
+none-first : (rs qs : List Row) → None rs → firstOf (rs ++ qs) ≡ firstOf qs
+none-first [] qs n = refl
+none-first (r ∷ rs) qs n = rw (n .0) (none-first rs qs (n .1))
+
+module _ (s : Space) (x : Request) (e : refusal s x ≡ 0) where
+  abbrev rows : List Row
+  rows = steps (viewOf true s (asked x) (length (x .buffer))) (asked x)
+
+  none : None (notEntry (x .entry) ∷ notCompletion (x .completion) ∷ take 9 rows)
+  unfolding refusal steps
+  none = none-holds (notEntry (x .entry) ∷ notCompletion (x .completion) ∷ take 9 rows) tt e
+
+  pub entry-64 : length (x .entry) ≡ 64
+  entry-64 = eqb-true (length (x .entry)) 64 (not-false _ (none .0))
+
+  pub completion-16 : length (x .completion) ≡ 16
+  completion-16 = eqb-true (length (x .completion)) 16 (not-false _ (none .1 .0))
+
+  pub later-steps : statusOf true s (asked x) (length (x .buffer)) ≡ firstOf (drop 9 rows)
+  unfolding statusOf steps
+  later-steps = none-first (take 9 rows) (drop 9 rows) (none .1 .1)
+
+-- ---- what it is answered on memory that holds s
+
+module _ (s : Space) (m : Memory) (x : Request) (h : Holds s m) (e : refusal s x ≡ 0) where
+  pub gives : (a : Answer) → answer true s (asked x) (x .buffer) ≡ a → a .dword0 < 256 ^ 4 → Gives (a .status) (a .dword0) (a .buffer) (sends m x)
+  gives a is small =
+      let e64 = entry-64 s x e in
+      let c16 = completion-16 s x e in
+      let st = sym (answer-status true s (asked x) (x .buffer)) ∙ ap (λ (a : Answer). a .status) is in
+      record {
+        number = call-number s m (x .post) (x .entry) (x .completion) (x .buffer) h e64 c16;
+        status = call-status s m (x .post) (x .entry) (x .completion) (x .buffer) h e64 c16 ∙ st;
+        dword0 = rw is at (call-dword0 s m (x .post) (x .entry) (x .completion) (x .buffer) h e64 c16) small;
+        buffer = rw is at (call-buffer s m (x .post) (x .entry) (x .completion) (x .buffer) h e64 c16);
+      }

@@ -1,0 +1,80 @@
+-- A formatting of any lent bytes and calls after it: what they leave in the two slices and what they leave stored. Assumes nothing.
+use mathlib.Core.Path.{_≡_}
+use mathlib.Core.Bool.{Bool, true, false, not, _&&_, _||_}
+use mathlib.Core.List.{List, [], _∷_}
+use Prim.Native.Nat.{ℕ}
+use lib.Dec.{eqb}
+use lib.ListN.{take, drop}
+use Rattle.octets.specs.Octets.{same}
+use Rattle.octets.specs.Keys.{Key}
+use Rattle.wire.specs.Entry.{readCommand, keyOf, isStore, isDelete}
+use Rattle.store.specs.Formats.{needed}
+use Rattle.store.specs.Maps.{lookup}
+use Rattle.store.specs.Space.{Space, fresh, within}
+use Rattle.store.specs.Image.{directoryOf, valuesOf}
+use Rattle.module.specs.Formatting.{Memory, Formatted, format}
+use Rattle.module.specs.Command.{Outcome}
+use Rattle.module.specs.History.{Call, formatting, commanding, run, leaves, succeeded, stored}
+
+-- lent bytes, and what their formatting is given
+pub record Start : Type 0 where
+  pub index : ℕ
+  pub id : ℕ
+  pub size : ℕ
+  pub lent : Memory
+
+abbrev pub begun : Start → Formatted
+begun a = format (a .index) (a .id) (a .size) (a .lent)
+
+abbrev pub memoryAfter : Start → List Call → Memory
+memoryAfter a xs = leaves (begun a .after) xs
+
+abbrev pub storedAfter : Start → List Call → Space
+storedAfter a xs = stored (fresh (a .index) (a .id) (a .size)) (begun a .after) xs
+
+-- ---- what memory shows
+
+-- s is within its limits, and the needed part of the memory is its image
+pub record Shows (s : Space) (m : Memory) : Type 0 where
+  pub within : within s ≡ true
+  pub directory : take (needed (s .index)) (m .directory) ≡ directoryOf s
+  pub values : take (s .size) (m .values) ≡ valuesOf s
+
+-- the bytes past the needed part of a formatting
+pub record SamePast (index size : ℕ) (m n : Memory) : Type 0 where
+  pub directory : drop (needed index) (m .directory) ≡ drop (needed index) (n .directory)
+  pub values : drop size (m .values) ≡ drop size (n .values)
+
+-- the needed part itself
+pub record SameNeeded (index size : ℕ) (m n : Memory) : Type 0 where
+  pub directory : take (needed index) (m .directory) ≡ take (needed index) (n .directory)
+  pub values : take size (m .values) ≡ take size (n .values)
+
+-- one formatting, and the same under each key
+pub record SamePairs (s t : Space) : Type 0 where
+  pub index : s .index ≡ t .index
+  pub id : s .id ≡ t .id
+  pub size : s .size ≡ t .size
+  pub pairs : (k : Key) → lookup k (s .pairs) ≡ lookup k (t .pairs)
+
+-- ---- what calls do not do
+
+-- f says no of each call and its outcome
+abbrev pub never : (Call → Outcome → Bool) → Memory → List Call → Bool
+never f m [] = true
+never f m (x ∷ xs) = not (f x (run m x)) && never f (run m x .after .memory) xs
+
+-- it formats with success
+abbrev pub formats : Call → Outcome → Bool
+formats (formatting i id n) o = eqb (o .number) 0
+formats (commanding p e c b) o = false
+
+-- it formats, stores or deletes with success
+abbrev pub changes : Call → Outcome → Bool
+changes (formatting i id n) o = eqb (o .number) 0
+changes (commanding p e c b) o = succeeded o && (isStore (readCommand e .opcode) || isDelete (readCommand e .opcode))
+
+-- it formats with success, or changes what is held under k
+abbrev pub touches : Key → Call → Outcome → Bool
+touches k (formatting i id n) o = eqb (o .number) 0
+touches k (commanding p e c b) o = changes (commanding p e c b) o && same (keyOf (readCommand e)) k

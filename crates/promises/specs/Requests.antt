@@ -1,0 +1,49 @@
+-- A command that a host sends, what refuses it before step i, and what it is answered. Assumes nothing.
+use mathlib.Core.Path.{_≡_}
+use mathlib.Core.Bool.{true}
+use mathlib.Core.List.{List, _∷_}
+use Prim.Native.Nat.{ℕ}
+use lib.ListN.{length, take}
+use Rattle.octets.specs.Keys.{Key}
+use Rattle.octets.specs.Tests.{firstOf}
+use Rattle.wire.specs.declared.entries.Command.{Command}
+use Rattle.wire.specs.Entry.{readCommand, keyOf, notEntry}
+use Rattle.wire.specs.Completion.{readCompletion, notCompletion}
+use Rattle.store.specs.Space.{Space}
+use Rattle.module.specs.Steps.{viewOf, steps}
+use Rattle.module.specs.Formatting.{Memory}
+use Rattle.module.specs.Command.{Post, Outcome}
+use Rattle.module.specs.History.{Call, commanding, run}
+
+pub record Request : Type 0 where
+  pub post : Post
+  pub entry : List ℕ
+  pub completion : List ℕ
+  pub buffer : List ℕ
+
+abbrev pub call : Request → Call
+call x = commanding (x .post) (x .entry) (x .completion) (x .buffer)
+
+abbrev pub sends : Memory → Request → Outcome
+sends m x = run m (call x)
+
+abbrev pub asked : Request → Command
+asked x = readCommand (x .entry)
+
+-- the first of numbers 1 and 2 and of steps a to h, which are the first nine rows of the table; step a finds legal memory
+unfoldable pub refusal : Space → Request → ℕ
+refusal s x =
+    firstOf (notEntry (x .entry) ∷ notCompletion (x .completion) ∷ take 9 (steps (viewOf true s (asked x) (length (x .buffer))) (asked x)))
+
+-- opcode op and key k, and nothing before step i refuses it where s is stored
+pub record Proper (s : Space) (op : ℕ) (k : Key) (x : Request) : Type 0 where
+  pub opcode : asked x .opcode ≡ op
+  pub key : keyOf (asked x) ≡ k
+  pub passes : refusal s x ≡ 0
+
+-- number 0, and with it status, Dword 0 and the data buffer afterwards
+pub record Gives (st n : ℕ) (b : List ℕ) (o : Outcome) : Type 0 where
+  pub number : o .number ≡ 0
+  pub status : readCompletion (o .after .completion) .status ≡ st
+  pub dword0 : readCompletion (o .after .completion) .dword0 ≡ n
+  pub buffer : o .after .buffer ≡ b
