@@ -139,7 +139,7 @@ module _ (i id n : ℕ) (m : Memory) where
 -- ---- bytes past the needed part
 
 -- they are not written
-past-put : (n : ℕ) (xs old : List ℕ) → length xs ≡ n → drop n (put 0 xs old) ≡ drop n old
+pub past-put : (n : ℕ) (xs old : List ℕ) → length xs ≡ n → drop n (put 0 xs old) ≡ drop n old
 unfolding put
 past-put n xs old e = rw (zero-add, e) (drop-at xs (drop n old) n e)
 

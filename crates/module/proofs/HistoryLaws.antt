@@ -4,13 +4,11 @@ use mathlib.Core.Path.{_≡_, refl, ap}
 use mathlib.Core.Bool.{Bool, true, false, cond}
 use mathlib.Core.List.{List, [], _∷_}
 use Prim.Native.Nat.{ℕ, _^_, _<_}
-use native.Mathlib.Nat.{zero-add}
 use native.Mathlib.Omega.{arith}
-use lib.ListN.{length, drop}
-use lib.Seq.{drop-at}
+use lib.ListN.{length}
 use lib.Dec.{eqb}
 use borrow.Author.Tests.{eqb-true, eq-eqb}
-use Rattle.octets.specs.Octets.{part, put, number, bytes}
+use Rattle.octets.specs.Octets.{part, number, bytes}
 use Rattle.octets.proofs.NumberLaws.{number-bytes}
 use Rattle.wire.specs.declared.entries.Command.{Command}
 use Rattle.wire.specs.Entry.{readCommand}
@@ -26,7 +24,7 @@ use Rattle.module.specs.Formatting.{Memory, format}
 use Rattle.module.specs.Command.{Post, Outcome, completionOf, serve}
 use Rattle.module.specs.History.{Call, formatting, commanding, lend, run, leaves, told, stored}
 use Rattle.module.proofs.AnswerLaws.{status-byte, answer-status}
-use Rattle.module.proofs.CommandLaws.{Holds, entry-key, serve-is, serve-holds, command-0, command-1, command-2, format-holds, format-refused, Kept, serve-kept}
+use Rattle.module.proofs.CommandLaws.{past-put, Holds, entry-key, serve-is, serve-holds, command-0, command-1, command-2, format-holds, format-refused, Kept, serve-kept}
 
 -- ---- a command that numbers 1 and 2 let pass
 
@@ -82,10 +80,6 @@ module _ (s : Space) (m : Memory) (p : Post) (e c b : List ℕ) (h : Holds s m) 
 
 -- ---- formatting
 
-behind : (n : ℕ) (xs old : List ℕ) → length xs ≡ n → drop n (put 0 xs old) ≡ drop n old
-unfolding put
-behind n xs old e = rw (zero-add, e) (drop-at xs (drop n old) n e)
-
 module _ (i id n : ℕ) (m : Memory) where
   format-told : (s : Space) → Holds s m → Holds (cond (eqb (format i id n m .number) 0) (fresh i id n) s) (format i id n m .after)
   unfolding format
@@ -100,8 +94,8 @@ module _ (i id n : ℕ) (m : Memory) where
   format-kept e =
       let w = fresh-within i id n (formattable i id n (length (m .directory)) (length (m .values)) e .permits) in
       rw e (record {
-        directory = behind (needed i) (directoryOf (fresh i id n)) (m .directory) (length-directory (fresh i id n) w);
-        values = behind n (valuesOf (fresh i id n)) (m .values) (length-values (fresh i id n) w);
+        directory = past-put (needed i) (directoryOf (fresh i id n)) (m .directory) (length-directory (fresh i id n) w);
+        values = past-put n (valuesOf (fresh i id n)) (m .values) (length-values (fresh i id n) w);
       })
 
 -- ---- any call

@@ -21,16 +21,13 @@ use Rattle.module.specs.Formatting.{Memory, format}
 use Rattle.module.specs.Command.{respond, serve, command}
 use Rattle.module.specs.History.{Call, formatting, commanding, run, leaves, told, stored}
 use Rattle.module.proofs.CommandLaws.{Holds, Kept, format-holds, format-refused}
-use Rattle.module.proofs.HistoryLaws.{told-call, told-calls, command-kept, format-kept}
+use Rattle.module.proofs.HistoryLaws.{told-call, command-kept, format-kept}
 use Rattle.promises.specs.Histories.{Start, begun, memoryAfter, storedAfter, Shows, SamePast, SameNeeded, SamePairs, never, formats}
 use Rattle.promises.specs.Requests.{call}
+use Rattle.promises.proofs.RequestLaws.{holds-after}
 use Rattle.promises.proofs.Examples.{start, start-begun, A, B, store, vain}
 
 -- ---- the image of what is stored
-
-pub holds-after : (a : Start) (xs : List Call) → begun a .number ≡ 0 → Holds (storedAfter a xs) (memoryAfter a xs)
-holds-after a xs ok =
-    told-calls (fresh (a .index) (a .id) (a .size)) (begun a .after) xs (format-holds (a .index) (a .id) (a .size) (a .lent) ok)
 
 pub history : (a : Start) (xs : List Call) → begun a .number ≡ 0 → Shows (storedAfter a xs) (memoryAfter a xs)
 history a xs ok =

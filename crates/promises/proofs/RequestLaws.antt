@@ -1,4 +1,5 @@
--- What is known of a request that nothing before step i refuses: the later rows decide its status. Assumes nothing.
+-- Memory after a formatting and calls holds what is stored; of a request that nothing before step i refuses, the later rows decide the
+-- status. Assumes nothing.
 use mathlib.Core.Path.{_≡_, refl, sym, ap, _∙_}
 use mathlib.Core.Bool.{true}
 use mathlib.Core.List.{List, [], _∷_, _++_}
@@ -9,14 +10,22 @@ use Rattle.octets.specs.Tests.{Row, firstOf}
 use Rattle.octets.proofs.TestLaws.{None, none-holds}
 use Rattle.wire.specs.Entry.{notEntry}
 use Rattle.wire.specs.Completion.{notCompletion}
-use Rattle.store.specs.Space.{Space}
+use Rattle.store.specs.Space.{Space, fresh}
 use Rattle.module.specs.Steps.{viewOf, steps, statusOf}
 use Rattle.module.specs.Answer.{Answer, answer}
 use Rattle.module.specs.Formatting.{Memory}
 use Rattle.module.proofs.AnswerLaws.{answer-status}
-use Rattle.module.proofs.CommandLaws.{Holds}
-use Rattle.module.proofs.HistoryLaws.{call-number, call-status, call-dword0, call-buffer}
-use Rattle.promises.specs.Requests.{Request, sends, asked, refusal, Gives}
+use Rattle.module.proofs.CommandLaws.{Holds, format-holds}
+use Rattle.module.proofs.HistoryLaws.{told-calls, call-number, call-status, call-dword0, call-buffer}
+use Rattle.module.specs.History.{Call}
+use Rattle.promises.specs.Histories.{Start, begun, memoryAfter, storedAfter}
+use Rattle.promises.specs.Requests.{Request, sends, asked, rowsToH, refusal, Gives}
+
+pub holds-after : (a : Start) (xs : List Call) → begun a .number ≡ 0 → Holds (storedAfter a xs) (memoryAfter a xs)
+holds-after a xs ok =
+    told-calls (fresh (a .index) (a .id) (a .size)) (begun a .after) xs (format-holds (a .index) (a .id) (a .size) (a .lent) ok)
+
+-- ---- a request that nothing before step i refuses
 
 none-first : (rs qs : List Row) → None rs → firstOf (rs ++ qs) ≡ firstOf qs
 none-first [] qs n = refl
@@ -26,9 +35,9 @@ module _ (s : Space) (x : Request) (e : refusal s x ≡ 0) where
   abbrev rows : List Row
   rows = steps (viewOf true s (asked x) (length (x .buffer))) (asked x)
 
-  none : None (notEntry (x .entry) ∷ notCompletion (x .completion) ∷ take 9 rows)
+  none : None (notEntry (x .entry) ∷ notCompletion (x .completion) ∷ take rowsToH rows)
   unfolding refusal steps
-  none = none-holds (notEntry (x .entry) ∷ notCompletion (x .completion) ∷ take 9 rows) tt e
+  none = none-holds (notEntry (x .entry) ∷ notCompletion (x .completion) ∷ take rowsToH rows) tt e
 
   pub entry-64 : length (x .entry) ≡ 64
   entry-64 = eqb-true (length (x .entry)) 64 (not-false _ (none .0))
@@ -36,9 +45,9 @@ module _ (s : Space) (x : Request) (e : refusal s x ≡ 0) where
   pub completion-16 : length (x .completion) ≡ 16
   completion-16 = eqb-true (length (x .completion)) 16 (not-false _ (none .1 .0))
 
-  pub later-steps : statusOf true s (asked x) (length (x .buffer)) ≡ firstOf (drop 9 rows)
+  pub later-steps : statusOf true s (asked x) (length (x .buffer)) ≡ firstOf (drop rowsToH rows)
   unfolding statusOf steps
-  later-steps = none-first (take 9 rows) (drop 9 rows) (none .1 .1)
+  later-steps = none-first (take rowsToH rows) (drop rowsToH rows) (none .1 .1)
 
 -- ---- what it is answered on memory that holds s
 

@@ -37,8 +37,7 @@ use Rattle.module.proofs.HistoryLaws.{told-call}
 use Rattle.promises.specs.Histories.{Start, begun, memoryAfter, storedAfter, never, touches}
 use Rattle.promises.specs.Requests.{Request, call, sends, asked, refusal, Proper, Gives}
 use Rattle.promises.specs.Retrieves.{valueIn, Since}
-use Rattle.promises.proofs.RequestLaws.{later-steps, gives}
-use Rattle.promises.proofs.History.{holds-after}
+use Rattle.promises.proofs.RequestLaws.{holds-after, later-steps, gives}
 use Rattle.promises.proofs.Examples.{start, request, A, B, store, exist, vain}
 
 -- ---- calls that leave a key alone

@@ -2,9 +2,9 @@
 use mathlib.Core.Path.{_≡_, refl, ap, _∙_}
 use mathlib.Core.Bool.{true}
 use mathlib.Core.List.{List, [], _∷_, map}
-use Prim.Native.Nat.{ℕ, _<_}
+use Prim.Native.Nat.{_<_}
 use native.Mathlib.Omega.{arith}
-use lib.ListN.{length, length-append, length-take, length-drop}
+use lib.ListN.{length}
 use borrow.Author.Tests.{eq-eqb}
 use Rattle.octets.specs.Octets.{part, number, bytes, zeros}
 use Rattle.octets.proofs.NumberLaws.{number-bytes}
@@ -17,7 +17,7 @@ use Rattle.module.specs.Formatting.{Memory, memory, format}
 use Rattle.module.specs.Command.{post, Lent, serve, Outcome, outcome}
 use Rattle.module.specs.History.{lend, run, leaves}
 use Rattle.module.proofs.AnswerLaws.{status-byte, answer-status}
-use Rattle.module.proofs.CommandLaws.{Holds, serve-is, serve-holds, command-0, format-holds}
+use Rattle.module.proofs.CommandLaws.{entry-key, Holds, serve-is, serve-holds, command-0, format-holds}
 use Rattle.promises.specs.Cases.{Call, answerTo, after}
 use Rattle.promises.specs.StandIns.{status, calling, start}
 
@@ -33,10 +33,6 @@ pub record Ran (s : Space) (x : Call) (o : Outcome) : Type 0 where
   pub says : status o ≡ answerTo s x .status
   pub gives : o .after .buffer ≡ answerTo s x .buffer
   pub holds : Holds (withPairs s (answerTo s x .pairs)) (o .after .memory)
-
-entry-key : (e : List ℕ) → length e ≡ 64 → length (readCommand e .key) ≡ 16
-unfolding readCommand part
-entry-key e h = simp (length-append, length-take, length-drop) (omega arith)
 
 pub ran : (s : Space) (m : Memory) (x : Call) → Holds s m → length (x .entry) ≡ 64 → Ran s x (run m (calling x))
 ran s m x h w =

@@ -31,9 +31,8 @@ use Rattle.module.proofs.HistoryLaws.{told-call}
 use Rattle.promises.specs.Histories.{Start, begun, memoryAfter, storedAfter, never, changes}
 use Rattle.promises.specs.Requests.{Request, call, sends, asked, refusal}
 use Rattle.promises.specs.Walks.{pageRead, newOn, lastOf, Lists, Onward, ended, paused, next, Walk, Finds}
-use Rattle.promises.proofs.RequestLaws.{later-steps, gives}
+use Rattle.promises.proofs.RequestLaws.{holds-after, later-steps, gives}
 use Rattle.promises.proofs.ShownLaws.{Pageable, pageable, pageable-right, fits-begins, fits-none, from-empty, from-stored, shown-read}
-use Rattle.promises.proofs.History.{holds-after}
 use Rattle.promises.proofs.Examples.{start, start-begun, request, key, store, exist}
 
 -- ---- calls that change nothing

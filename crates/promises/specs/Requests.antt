@@ -30,10 +30,14 @@ sends m x = run m (call x)
 abbrev pub asked : Request → Command
 asked x = readCommand (x .entry)
 
--- the first of numbers 1 and 2 and of steps a to h, which are the first nine rows of the table; step a finds legal memory
+-- steps a to h are the table's first nine rows
+abbrev pub rowsToH : ℕ
+rowsToH = 9
+
+-- what numbers 1 and 2 and steps a to h say, 0 if none refuses; memory is legal after a formatting, so step a never does
 unfoldable pub refusal : Space → Request → ℕ
 refusal s x =
-    firstOf (notEntry (x .entry) ∷ notCompletion (x .completion) ∷ take 9 (steps (viewOf true s (asked x) (length (x .buffer))) (asked x)))
+    firstOf (notEntry (x .entry) ∷ notCompletion (x .completion) ∷ take rowsToH (steps (viewOf true s (asked x) (length (x .buffer))) (asked x)))
 
 -- opcode op and key k, and nothing before step i refuses it where s is stored
 pub record Proper (s : Space) (op : ℕ) (k : Key) (x : Request) : Type 0 where

@@ -36,7 +36,7 @@ joined [] = keys []
 joined (refused n ∷ pages) = refused n
 joined (keys ks ∷ pages) = behind ks (joined pages)
 
--- a List from k
+-- a List from k; 44 bytes hold the count and two entries of the longest keys, so a later page has room for a new key
 pub record Lists (s : Space) (k : Key) (x : Request) : Type 0 where
   pub proper : Proper s 0x06 k x
   pub wide : 44 ≤ asked x .amount
