@@ -1,0 +1,73 @@
+/* A morning in the yard: each click of the pliers stores a tag's record; in the evening the host walks the store and prints the
+ * tally. Host and cabinet are one program here, so an entry goes from kv_build straight to kv_command. */
+#include "kv.h"
+
+int printf(const char *, ...);
+void *memcpy(void *, const void *, size_t);
+size_t strlen(const char *);
+
+enum { FORMAT = 3, NAMESPACE = 1, SIZE = 4096, PAGE = 44 }; /* tags of up to 16 bytes, records of up to 64, at most 1024 tags */
+
+static uint8_t directory[64 + 32 * 1024], values[SIZE], data[64];
+
+static const char *const morning[][2] = {
+    {"ES-0417-0091", "ear, left"},  {"ES-0417-0088", "ear, left"},      {"ES-0417-0102", "ear, right"},
+    {"ES-0417-0091", "ear, right"}, {"ES-0417-0095", "ear, left"},      {"ES-0417-0009", "lamb of 0088"},
+    {"ES-0417-0113", "ear, left"},  {"ES-0417-0088", "left; dosed"},    {"FR-22-7", "bought in"},
+    {"FR-22-70", "bought in"},      {"ES-0417-01", "click in the air"}, {"ES-0417-0120", "ear, left"},
+};
+
+/* one command from its entry to its completion */
+static struct kv_completion ask(uint8_t opcode, const void *key, size_t len, uint32_t amount) {
+    static uint16_t cid;
+    uint8_t entry[64], completion[16];
+    struct kv_completion refused = {.number = kv_build(entry, sizeof entry, opcode, ++cid, NAMESPACE, key, len, amount, 0)};
+    if (refused.number == KV_DONE)
+        refused.number = kv_command(entry, sizeof entry, completion, sizeof completion, data, sizeof data, directory,
+                                    sizeof directory, values, sizeof values, cid, 1, 1);
+    return refused.number != KV_DONE ? refused : kv_read_completion(completion, sizeof completion);
+}
+
+static int done(struct kv_completion c) {
+    if (c.number != KV_DONE || c.status != KV_SUCCESS) printf("refused: number %u, status %02xh\n", c.number, c.status);
+    return c.number == KV_DONE && c.status == KV_SUCCESS;
+}
+
+static int print(const struct kv_page_key *tag) {
+    struct kv_completion c = ask(KV_RETRIEVE, tag->key, tag->len, sizeof data);
+    if (!done(c)) return 0;
+    printf("%-16.*s %.*s\n", (int)tag->len, (const char *)tag->key, (int)c.dword0, (const char *)data);
+    return 1;
+}
+
+/* Each List begins at the last tag seen, which is then the first on its page. A page of 44 bytes has room for two tags of any
+ * length, so a page of fewer than two is the last. */
+static int tally(uint32_t *count) {
+    struct kv_page_key tag = {0};
+    for (*count = 0;;) {
+        uint8_t page[PAGE];
+        uint32_t first = tag.len > 0, keys;
+        if (!done(ask(KV_LIST, tag.key, tag.len, PAGE))) return 0;
+        memcpy(page, data, PAGE); /* Retrieve uses the same buffer */
+        keys = kv_read_page(page, PAGE, 0).count;
+        for (uint32_t i = first; i < keys; i++, (*count)++) {
+            tag = kv_read_page(page, PAGE, i);
+            if (tag.number != KV_DONE || !print(&tag)) return 0;
+        }
+        if (keys < 2) return 1;
+    }
+}
+
+int main(void) {
+    uint32_t count;
+    if (kv_format(FORMAT, NAMESPACE, SIZE, directory, sizeof directory, values, sizeof values) != KV_DONE) return 1;
+    for (size_t i = 0; i < sizeof morning / sizeof *morning; i++) {
+        size_t n = strlen(morning[i][1]);
+        memcpy(data, morning[i][1], n);
+        if (!done(ask(KV_STORE, morning[i][0], strlen(morning[i][0]), n))) return 1;
+    }
+    if (!done(ask(KV_DELETE, "ES-0417-01", 10, 0))) return 1;
+    if (!tally(&count)) return 1;
+    printf("%u tags\n", count);
+    return 0;
+}
