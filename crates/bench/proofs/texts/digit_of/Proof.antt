@@ -1,0 +1,14 @@
+use native.Mathlib.Omega.{arith}
+use borrow.Author.Needs.{needs}
+use borrow.Author.Tests.{lt-ltb, le-ltb}
+use Rattle.bench.proofs.texts.digit_of.Statement.{statement}
+use Rattle.bench.proofs.texts.digit_of.Tie as tie
+
+pub digit-of-spec : {M : Type 1} → statement M
+digit-of-spec =
+    tie.close
+    (tie.spec
+    (λ c. search needs)
+    (λ c. rw (lt-ltb _ 10 (c .if1 .taken)))
+    (λ c. search needs)
+    (λ c. rw (le-ltb _ 10 (c .if1 .left)) (omega arith)))
