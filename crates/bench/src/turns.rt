@@ -4,6 +4,9 @@ use crate::texts::write_line;
 use module::commands::step;
 use wire::completions::read_completion;
 use wire::entries::Command;
+use wire::entries::LIST;
+use wire::entries::RETRIEVE;
+use wire::entries::STORE;
 use wire::entries::read_entry;
 ghost use mathlib.Core.Path.{_≡_};
 ghost use Prim.Native.Nat.{_<_, _≤_, min};
@@ -16,19 +19,19 @@ ghost use Rattle.bench.specs.Turn.{headAfter, roomOf, gives, givenOf, pr
 pub fn is_store(opcode: u8) -> bool
     ensures { λ r. ⌜ r ≡ isStore opcode ⌝ }
 {
-    opcode == 0x01
+    opcode == STORE
 }
 
 fn is_retrieve(opcode: u8) -> bool
     ensures { λ r. ⌜ r ≡ isRetrieve opcode ⌝ }
 {
-    opcode == 0x02
+    opcode == RETRIEVE
 }
 
 fn is_list(opcode: u8) -> bool
     ensures { λ r. ⌜ r ≡ isList opcode ⌝ }
 {
-    opcode == 0x06
+    opcode == LIST
 }
 
 // "... with head the count of entries read modulo 65,536": the entry counts itself, and count those before it.

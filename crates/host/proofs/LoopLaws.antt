@@ -14,22 +14,17 @@ use Rattle.octets.specs.Octets.{part, number}
 use Rattle.octets.specs.Keys.{Key}
 use Rattle.octets.proofs.PartLaws.{part-drop, part-rest}
 use Rattle.wire.specs.declared.pages.PageEntry.{PageEntry}
-use Rattle.wire.specs.Page.{entrySize, firstEntry, Reading, refused, keys, more, readEntries, readPage}
+use Rattle.wire.specs.Page.{entrySize, firstEntry, Reading, refused, keys, behind, readEntries, readPage}
 use Rattle.wire.proofs.FirstLaws.{First, first-fits}
 use Rattle.host.specs.PageKey.{refusal, given, pageKey}
 
--- a reading with keys before its own
-abbrev after : List Key → Reading → Reading
-after ks (refused n) = refused n
-after ks (keys ls) = keys (ks ++ ls)
+behind-none : (r : Reading) → behind [] r ≡ r
+behind-none (refused n) = refl
+behind-none (keys ls) = refl
 
-after-none : (r : Reading) → after [] r ≡ r
-after-none (refused n) = refl
-after-none (keys ls) = refl
-
-after-more : (ks : List Key) (k : Key) (r : Reading) → after ks (more k r) ≡ after (ks ++ (k ∷ [])) r
-after-more ks k (refused n) = refl
-after-more ks k (keys ls) = ap keys (sym (append-assoc ks (k ∷ []) ls))
+behind-behind : (js ks : List Key) (r : Reading) → behind js (behind ks r) ≡ behind (js ++ ks) r
+behind-behind js ks (refused n) = refl
+behind-behind js ks (keys ls) = ap keys (sym (append-assoc js ks ls))
 
 -- one more key is the key of no other ordinal than its own
 other : (ks : List Key) (k : Key) (o : ℕ) → (o ≡ length ks → ⊥) → getD (ks ++ (k ∷ [])) o [] ≡ getD ks o []
@@ -49,7 +44,7 @@ pub record Passed (p : List ℕ) (o count i at last end asked stop : ℕ) : Type
   pub seen : List Key
   pub many : length seen ≡ i
   pub found : getD seen o [] ≡ part asked (stop - asked) p
-  pub is : readPage p ≡ after seen (readEntries (count - i) (part last (end - last) p) (drop at p))
+  pub is : readPage p ≡ behind seen (readEntries (count - i) (part last (end - last) p) (drop at p))
 
 pub page-short : (p : List ℕ) (o : ℕ) → length p < 4 → refusal 7 ≡ pageKey (readPage p) o
 unfolding readPage
@@ -69,7 +64,7 @@ passed-none p o count e h =
       seen = [];
       many = refl;
       found = refl;
-      is = rw (le-ltb (length p) 4 h, sub-zero, e) (sym (after-none _));
+      is = rw (le-ltb (length p) 4 h, sub-zero, e) (sym (behind-none _));
     }
 
 module _ {p : List ℕ} {o count i at last end asked stop : ℕ} (g : Passed p o count i at last end asked stop) where
@@ -88,7 +83,7 @@ module _ {p : List ℕ} {o count i at last end asked stop : ℕ} (g : Passed p o
     e-is = is ∙ ap (firstEntry (part last (end - last) p)) (part-rest at p)
 
     one : readPage p
-        ≡ after (g .seen) (cond (eqb (e .number) 0) (more k (readEntries (count - (i + 1)) k (drop (entrySize (e .len)) (drop at p)))) (refused (e .number)))
+        ≡ behind (g .seen) (cond (eqb (e .number) 0) (behind (k ∷ []) (readEntries (count - (i + 1)) k (drop (entrySize (e .len)) (drop at p)))) (refused (e .number)))
     unfolding k
     one =
         let z : count - i ≡ suc (count - (i + 1)) = omega arith in
@@ -101,8 +96,8 @@ module _ {p : List ℕ} {o count i at last end asked stop : ℕ} (g : Passed p o
       pub passed-first : First (length p - at) (e .len)
       passed-first = rw (← length-drop at p, e-is) (first-fits (part last (end - last) p) (drop at p) (rw e-is at q))
 
-      rest : readPage p ≡ after (g .seen ++ (k ∷ [])) (readEntries (count - (i + 1)) k (drop (entrySize (e .len)) (drop at p)))
-      rest = (rw (eq-eqb (e .number) 0 q) at one) ∙ after-more (g .seen) k (readEntries (count - (i + 1)) k (drop (entrySize (e .len)) (drop at p)))
+      rest : readPage p ≡ behind (g .seen ++ (k ∷ [])) (readEntries (count - (i + 1)) k (drop (entrySize (e .len)) (drop at p)))
+      rest = (rw (eq-eqb (e .number) 0 q) at one) ∙ behind-behind (g .seen) (k ∷ []) (readEntries (count - (i + 1)) k (drop (entrySize (e .len)) (drop at p)))
 
       module _ (m : ℕ) (size : m ≡ entrySize (e .len)) where
         k-is : part (at + 2) (at + 2 + e .len - (at + 2)) p ≡ k

@@ -2,21 +2,16 @@
 use crate::keys::sixteen;
 use wire::entries;
 use wire::entries::Command;
+use wire::entries::DELETE;
+use wire::entries::EXIST;
+use wire::entries::LIST;
+use wire::entries::RETRIEVE;
+use wire::entries::STORE;
 ghost use mathlib.Core.Path.{_≡_};
 ghost use Prim.Native.Nat.{_≤_};
 ghost use lib.ListN.{length};
 ghost use Rattle.wire.specs.Entry.{known};
 ghost use Rattle.host.specs.Build.{amountOf, optionsOf, command, built, build};
-
-const STORE: u8 = 0x01;
-
-const RETRIEVE: u8 = 0x02;
-
-const LIST: u8 = 0x06;
-
-const DELETE: u8 = 0x10;
-
-const EXIST: u8 = 0x14;
 
 fn is_known(opcode: u8) -> bool
     ensures { λ r. ⌜ r ≡ known opcode ⌝ }

@@ -1,7 +1,8 @@
 // The reader of List pages.
+use crate::entries::read_page_entry;
 use crate::keys::sixteen;
 use octets::words;
-use wire::pages;
+use wire::pages::page_entry_size;
 ghost use mathlib.Core.Path.{_≡_};
 ghost use Prim.Native.Nat.{_≤_};
 ghost use lib.ListN.{length};
@@ -58,7 +59,7 @@ pub extern "C" fn kv_read_page(page: &[u8], ordinal: u32) -> PageKey
     let mut asked = 4;
     let mut asked_end = 4;
     while i < count {
-        let e = pages::read_page_entry(&page[at..], &page[last..last_end]);
+        let e = read_page_entry(&page[at..], &page[last..last_end]);
         let number = e.number;
         let len = e.len;
         if number != 0 {
@@ -66,7 +67,7 @@ pub extern "C" fn kv_read_page(page: &[u8], ordinal: u32) -> PageKey
         }
         last = at + 2;
         last_end = last + len;
-        at += pages::page_entry_size(len);
+        at += page_entry_size(len);
         // the choice stands last in a turn, so that its two ways do not meet before the loop's head
         let here = i;
         i += 1;

@@ -28,7 +28,7 @@ use Rattle.module.proofs.CommandLaws.{past-put, Holds, entry-key, serve
 
 -- ---- a command that numbers 1 and 2 let pass
 
-status-back : (p : Post) (c : Command) (st n : ℕ) → st < 256 → readCompletion (completionOf p c st n) .status ≡ st
+pub status-back : (p : Post) (c : Command) (st n : ℕ) → st < 256 → readCompletion (completionOf p c st n) .status ≡ st
 unfolding readCompletion writeCompletion part number
 status-back p c st n h = omega arith
 

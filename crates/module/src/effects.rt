@@ -7,6 +7,10 @@ use crate::parts::replace_pair;
 use store::checks::Checked;
 use store::finds::Found;
 use wire::entries::Command;
+use wire::entries::DELETE;
+use wire::entries::LIST;
+use wire::entries::RETRIEVE;
+use wire::entries::STORE;
 ghost use mathlib.Core.Path.{_≡_};
 ghost use lib.ListN.{length};
 ghost use Rattle.module.specs.Formatting.{memory};
@@ -65,18 +69,18 @@ pub fn perform(
     ensures { λ r. ⌜ effect r (now (buffer .exit)) (now (directory .exit)) (now (values .exit)) ≡ performed c (now (buffer .entry)) (memory (now (directory .entry)) (now (values .entry))) ⌝ }
 {
     let h = k.head;
-    if c.opcode == 0x01 {
+    if c.opcode == STORE {
         store_pair(c, k, f, buffer, directory, values);
         return 0;
     }
-    if c.opcode == 0x02 {
+    if c.opcode == RETRIEVE {
         return read_pair(directory, values, h, f.slot, buffer, c.amount);
     }
-    if c.opcode == 0x06 {
+    if c.opcode == LIST {
         list_pairs(directory, h, f.slot, buffer, c.amount);
         return 0;
     }
-    if c.opcode == 0x10 {
+    if c.opcode == DELETE {
         remove_pair(directory, values, h, k.total, f.slot);
         return 0;
     }

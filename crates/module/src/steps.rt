@@ -1,6 +1,11 @@
 // Steps a to j: the table of `specs/Steps.antt`, as an array of rows that computes to it.
 use store::formats::format_at;
 use wire::entries::Command;
+use wire::entries::DELETE;
+use wire::entries::EXIST;
+use wire::entries::LIST;
+use wire::entries::RETRIEVE;
+use wire::entries::STORE;
 ghost use mathlib.Core.Path.{_≡_};
 ghost use mathlib.Core.List.{map};
 ghost use Prim.Native.Nat.{_+_, _<_};
@@ -56,11 +61,11 @@ pub fn decide(c: Command, v: View) -> u8
     ensures { λ r. ⌜ r ≡ firstOf (steps v c) ⌝ }
 {
     let f = format_at(v.index);
-    let store = c.opcode == 0x01;
-    let retrieve = c.opcode == 0x02;
-    let list = c.opcode == 0x06;
-    let delete = c.opcode == 0x10;
-    let exist = c.opcode == 0x14;
+    let store = c.opcode == STORE;
+    let retrieve = c.opcode == RETRIEVE;
+    let list = c.opcode == LIST;
+    let delete = c.opcode == DELETE;
+    let exist = c.opcode == EXIST;
     let short = shorter(v.room, c.amount);
     let full = passes(v.size, v.used, c.len, c.amount);
     let if_present = store & (c.options % 2 == 1);

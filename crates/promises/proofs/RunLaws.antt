@@ -3,29 +3,20 @@ use mathlib.Core.Path.{_≡_, refl, ap, _∙_}
 use mathlib.Core.Bool.{true}
 use mathlib.Core.List.{List, [], _∷_, map}
 use Prim.Native.Nat.{_<_}
-use native.Mathlib.Omega.{arith}
 use lib.ListN.{length}
 use borrow.Author.Tests.{eq-eqb}
-use Rattle.octets.specs.Octets.{part, number, bytes, zeros}
-use Rattle.octets.proofs.NumberLaws.{number-bytes}
-use Rattle.wire.specs.declared.completions.Completion.{Completion}
+use Rattle.octets.specs.Octets.{zeros}
 use Rattle.wire.specs.Entry.{readCommand}
-use Rattle.wire.specs.Completion.{word, readCompletion, writeCompletion}
-use Rattle.wire.proofs.WordLaws.{unpacked}
+use Rattle.wire.specs.Completion.{readCompletion}
 use Rattle.store.specs.Space.{Space, fresh, withPairs, formatSteps}
 use Rattle.module.specs.Formatting.{Memory, memory, format}
 use Rattle.module.specs.Command.{post, Lent, serve, Outcome, outcome}
 use Rattle.module.specs.History.{lend, run, leaves}
 use Rattle.module.proofs.AnswerLaws.{status-byte, answer-status}
 use Rattle.module.proofs.CommandLaws.{entry-key, Holds, serve-is, serve-holds, command-0, format-holds}
+use Rattle.module.proofs.HistoryLaws.{status-back}
 use Rattle.promises.specs.Cases.{Call, answerTo, after}
 use Rattle.promises.specs.StandIns.{status, calling, start}
-
-pub status-back : (c : Completion) → c .status < 256 → c .kind < 8 → readCompletion (writeCompletion c) .status ≡ c .status
-unfolding readCompletion writeCompletion part
-status-back c s k =
-    let n : number (bytes 2 (word c)) ≡ word c = number-bytes 2 (word c) (omega arith) in
-    rw (n, unpacked c s k .1)
 
 -- x was called on the image of s, and o is the outcome
 pub record Ran (s : Space) (x : Call) (o : Outcome) : Type 0 where
@@ -47,7 +38,7 @@ ran s m x h w =
       done = ap (λ (o : Outcome). o .number) n;
       says =
           ap (λ (o : Outcome). status o) n ∙ ap (λ (k : Lent). readCompletion (k .completion) .status) i
-          ∙ status-back (record { dword0 = a .dword0; head = 0; queue = 1; cid = c .cid; phase = 1; status = a .status; kind = 0 }) b (omega arith);
+          ∙ status-back p c (a .status) (a .dword0) b;
       gives = ap (λ (o : Outcome). o .after .buffer) n ∙ ap (λ (k : Lent). k .buffer) i;
       holds = rw n (serve-holds p c l s h (entry-key (x .entry) w));
     }

@@ -24,7 +24,6 @@ use Rattle.wire.proofs.entries.read_entry as read_entry
 use Rattle.wire.proofs.entries.write_entry as write_entry
 use Rattle.wire.proofs.pages.page_entry_size as page_entry_size
 use Rattle.wire.proofs.pages.write_page_entry as write_page_entry
-use Rattle.wire.proofs.pages.read_page_entry as read_page_entry
 
 -- ---- octets::keys
 
@@ -106,6 +105,3 @@ page-entry-size-one κs a x y u v p q = value _ _ _ p q
 
 pub write-page-entry-one : Determines write_page_entry.Kinds.ps write_page_entry.Kinds.r write_page_entry.Reads.Learnt
 write-page-entry-one κs a x y u v p q = slice (λ s. (s, (tt, tt))) _ _ _ p q
-
-pub read-page-entry-one : Determines read_page_entry.Kinds.ps read_page_entry.Kinds.r read_page_entry.Reads.Learnt
-read-page-entry-one κs a x y u v p q = value _ _ _ p q

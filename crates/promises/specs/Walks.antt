@@ -6,7 +6,7 @@ use mathlib.Core.List.{List, [], _∷_, _++_}
 use Prim.Native.Nat.{_+_, _≤_}
 use lib.ListN.{length, drop}
 use Rattle.octets.specs.Keys.{Key}
-use Rattle.wire.specs.Page.{Reading, refused, keys, readPage}
+use Rattle.wire.specs.Page.{Reading, refused, keys, behind, readPage}
 use Rattle.store.specs.Space.{Space}
 use Rattle.module.specs.Formatting.{Memory}
 use Rattle.module.specs.History.{Call, leaves}
@@ -27,10 +27,6 @@ lastOf k [] = k
 lastOf k (j ∷ ks) = lastOf j ks
 
 -- pages one behind the other; one that the reader refuses spoils all
-abbrev pub behind : List Key → Reading → Reading
-behind js (refused n) = refused n
-behind js (keys ks) = keys (js ++ ks)
-
 abbrev pub joined : List Reading → Reading
 joined [] = keys []
 joined (refused n ∷ pages) = refused n

@@ -8,13 +8,13 @@ ghost use lib.ListN.{take};
 ghost use Rattle.octets.specs.Octets.{part, put};
 ghost use Rattle.store.specs.Reads.{placeIn, lengthIn, CanCopy};
 
-fn smaller(a: u32, b: u32) -> usize
+fn smaller(a: u32, b: u32) -> u32
     ensures { λ r. ⌜ r ≡ min a b ⌝ }
 {
     if a < b {
-        return a as usize;
+        return a;
     }
-    b as usize
+    b
 }
 
 // The value of a slot is a part of the values that starts in their middle, handed on to the copying function: the smaller of
@@ -26,7 +26,8 @@ pub fn copy_value(records: &[u8], values: &[u8], slot: u32, buffer: &mut [u8], a
     let at = slot as usize;
     let place = place_at(records, at) as usize;
     let len = length_at(records, at);
-    let stop = place + smaller(len, amount);
+    let moved = smaller(len, amount);
+    let stop = place + moved as usize;
     copy(&values[place..stop], buffer);
     len
 }

@@ -57,9 +57,10 @@ pub data Reading : Type 0 where
   refused : ℕ → Reading
   keys : List Key → Reading
 
-abbrev pub more : Key → Reading → Reading
-more k (refused n) = refused n
-more k (keys ks) = keys (k ∷ ks)
+-- the keys js, and behind them those of a reading; one that is refused stays so
+abbrev pub behind : List Key → Reading → Reading
+behind js (refused n) = refused n
+behind js (keys ks) = keys (js ++ ks)
 
 -- n entries, the key before the first one being j
 abbrev pub readEntries : ℕ → Key → List ℕ → Reading
@@ -67,7 +68,7 @@ readEntries zero j s = keys []
 readEntries (suc n) j s =
     let e = firstEntry j s in
     let k = part 2 (e .len) s in
-    cond (eqb (e .number) 0) (more k (readEntries n k (drop (entrySize (e .len)) s))) (refused (e .number))
+    cond (eqb (e .number) 0) (behind (k ∷ []) (readEntries n k (drop (entrySize (e .len)) s))) (refused (e .number))
 
 -- the empty key is below every key that a page may hold
 unfoldable pub readPage : List ℕ → Reading

@@ -6,6 +6,16 @@ ghost use lib.ListN.{length};
 ghost use Rattle.octets.specs.Octets.{put};
 ghost use Rattle.wire.specs.Entry.{readCommand, writeCommand, frontOf, dwordsOf};
 
+pub const STORE: u8 = 0x01;
+
+pub const RETRIEVE: u8 = 0x02;
+
+pub const LIST: u8 = 0x06;
+
+pub const DELETE: u8 = 0x10;
+
+pub const EXIST: u8 = 0x14;
+
 // "The read command is a struct with its sixteen key bytes as an array and their length beside it"; amount is Dword 10.
 pub struct Command {
     pub opcode: u8,

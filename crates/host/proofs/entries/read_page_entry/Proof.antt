@@ -4,9 +4,9 @@ use borrow.Author.Needs.{needs}
 use borrow.Author.Tests.{not-true, not-false}
 use Rattle.octets.specs.Octets.{part}
 use Rattle.octets.specs.Keys.{isLess}
 use Rattle.wire.proofs.FirstLaws.{first-short, first-sized, first-cut, first-unpadded, first-low, first-read}
-use Rattle.wire.proofs.pages.read_page_entry.Statement.{statement}
-use Rattle.wire.proofs.pages.read_page_entry.Tie as tie
+use Rattle.host.proofs.entries.read_page_entry.Statement.{statement}
+use Rattle.host.proofs.entries.read_page_entry.Tie as tie
 
 pub read-page-entry-spec : {M : Type 1} → statement M
 unfolding part
