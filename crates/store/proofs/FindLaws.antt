@@ -8,6 +8,7 @@ use lib.Dec.{ltb}
 use lib.ListN.{getD}
 use borrow.Author.Tests.{ltb-true, ltb-false}
 use Rattle.octets.specs.Octets.{part, number}
+use Rattle.octets.specs.declared.keys.Order.{Order}
 use Rattle.octets.specs.declared.keys.Wide.{Wide}
 use Rattle.octets.specs.Keys.{Key, order, isLess, isEqual, wideOf, orderWide}
 use Rattle.octets.proofs.NumberLaws.{Bytes}
@@ -18,6 +19,10 @@ use Rattle.store.proofs.RankLaws.{rank-le, rank-test, has-at, has-past,
 
 abbrev pub wideSlot : ℕ → List ℕ → Wide
 wideSlot j s = wideOf (part (32 * j) 16 s) (number (part (32 * j + 16) 4 s))
+
+-- a test of the slot that was read is one of the slot
+pub tested : {v u : Wide} {t : Bool} (f : Order → Bool) (w : Wide) → v ≡ u → t ≡ f (orderWide v w) → t ≡ f (orderWide u w)
+tested f w e d = d ∙ ap (λ (v : Wide). f (orderWide v w)) e
 
 -- the slot of the key lies from low to high. The code has left the key itself behind, so this is of each key that is w
 pub record Halved (n : ℕ) (s : List ℕ) (w : Wide) (low high : ℕ) : Type 0 where

@@ -3,9 +3,10 @@ use native.Mathlib.Omega.{arith}
 use mir.Syntax.{w8}
 use lib.ListN.{take}
 use borrow.Author.Needs.{needs, elem-fits}
+use Rattle.octets.specs.Keys.{isLess, isEqual}
 use Rattle.octets.proofs.NumberLaws.{Bytes}
 use Rattle.octets.proofs.WideLaws.{Widened, widened-take}
-use Rattle.store.proofs.FindLaws.{Halved, halved-none, halved-up, halved-down, halved-found, halved-past}
+use Rattle.store.proofs.FindLaws.{tested, Halved, halved-none, halved-up, halved-down, halved-found, halved-past}
 use Rattle.store.proofs.finds.find.Statement.{statement}
 use Rattle.store.proofs.finds.find.Tie as tie
 
@@ -39,16 +40,16 @@ find-spec =
     (λ c. omega arith)
     (λ c.
     let l = c .before .before .before .before in
-    halved-up (l .before .before .before .pre .0) (bytes (l .before .before)) _ (c .before .less .result) (l .loop .inv) (cc) (c .if1 .taken) (omega arith))
+    halved-up (l .before .before .before .pre .0) (bytes (l .before .before)) _ _ (l .loop .inv) (tested isLess _ (c .before .before .wide-slot .ensures) (c .before .less .ensures)) (c .if1 .taken) (omega arith))
     (λ c. omega arith)
     (λ c.
     let l = c .before .before .before .before in
-    halved-down (l .before .before .before .pre .0) (bytes (l .before .before)) _ (c .before .less .result) (l .loop .inv) (cc) (c .if1 .left) (omega arith))
+    halved-down (l .before .before .before .pre .0) (bytes (l .before .before)) _ _ (l .loop .inv) (tested isLess _ (c .before .before .wide-slot .ensures) (c .before .less .ensures)) (c .if1 .left) (omega arith))
     (λ c κs. omega arith)
     (λ c κs. search needs)
     (λ c.
     let l = c .before .before .before .before in
-    halved-found (l .before .before .before .pre .0) (bytes (l .before .before)) _ (c .equal .result) (l .loop .inv) (key (l .before)) (cc) (omega arith) (omega arith))
+    halved-found (l .before .before .before .pre .0) (bytes (l .before .before)) _ _ (l .loop .inv) (key (l .before)) (tested isEqual _ (c .before .wide-slot2 .ensures) (c .equal .ensures)) (omega arith) (omega arith))
     (λ c.
     let l = c .before .before in
     halved-past _ (l .loop .inv) (key (l .before)) (omega arith) (omega arith)))
