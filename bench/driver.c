@@ -1,7 +1,11 @@
-/* One command on a store of n keys, for counting its instructions: driver COMMAND N. The count is taken inside `measured` alone. */
+/* One command on a store of n keys, for counting its instructions. `driver COMMAND N` writes that store to standard output; `driver
+   COMMAND N measure` reads it and gives the command once, and `driver COMMAND N skip` does all but that. */
 #include "kv.h"
 
-int printf(const char *, ...);
+typedef struct file FILE;
+extern FILE *stdin, *stdout;
+size_t fread(void *, size_t, size_t, FILE *);
+size_t fwrite(const void *, size_t, size_t, FILE *);
 int atoi(const char *);
 void *memcpy(void *, const void *, size_t);
 void *memset(void *, int, size_t);
@@ -10,8 +14,11 @@ enum { INDEX = 1, SIZE = 65536, VALUE = 32, PAGE = 4096 };
 
 static uint8_t directory[64 + 32 * 1024], values[SIZE], data[PAGE], completion[16], entry[64];
 
-__attribute__((noinline)) uint32_t measured(void) {
-    return kv_command(entry, 64, completion, 16, data, sizeof data, directory, sizeof directory, values, sizeof values, 1, 1, 1);
+/* whether the entry's command succeeds */
+__attribute__((noinline)) int measured(void) {
+    uint32_t number
+        = kv_command(entry, 64, completion, 16, data, sizeof data, directory, sizeof directory, values, sizeof values, 1, 1, 1);
+    return number == 0 && (completion[14] | completion[15] << 8) >> 1 == 0;
 }
 
 /* key i of n, eight bytes; i rises with the key */
@@ -26,22 +33,26 @@ static void prepare(int opcode, uint32_t i, uint32_t amount) {
     entry[44] = opcode == KV_LIST ? 0 : 8;
 }
 
-static int status(void) { return (completion[14] | completion[15] << 8) >> 1; }
+/* the store, but for the key that a Store is to bring */
+static int filled(int opcode, uint32_t n) {
+    kv_format(INDEX, 1, SIZE, directory, sizeof directory, values, sizeof values);
+    for (uint32_t i = 0; i < n; i++) {
+        if (opcode == KV_STORE && i == n / 2) continue;
+        prepare(KV_STORE, i, VALUE);
+        memset(data, i, VALUE);
+        if (!measured()) return 0;
+    }
+    return 1;
+}
 
 int main(int argc, char **argv) {
-    if (argc != 3) return 2;
+    if (argc < 3) return 2;
     int opcode = argv[1][0] == 'E' ? KV_EXIST : argv[1][0] == 'R' ? KV_RETRIEVE : argv[1][0] == 'S' ? KV_STORE
         : argv[1][0] == 'D' ? KV_DELETE : KV_LIST;
     uint32_t n = atoi(argv[2]);
-    kv_format(INDEX, 1, SIZE, directory, sizeof directory, values, sizeof values);
-    for (uint32_t i = 0; i < n; i++) {
-        if (opcode == KV_STORE && i == n / 2) continue; /* the key that is measured */
-        prepare(KV_STORE, i, VALUE);
-        memset(data, i, VALUE);
-        kv_command(entry, 64, completion, 16, data, sizeof data, directory, sizeof directory, values, sizeof values, 1, 1, 1);
-        if (status() != 0) return 3;
-    }
+    if (argc == 3)
+        return !(filled(opcode, n) && fwrite(directory, sizeof directory, 1, stdout) && fwrite(values, SIZE, 1, stdout));
+    if (!fread(directory, sizeof directory, 1, stdin) || !fread(values, SIZE, 1, stdin)) return 1;
     prepare(opcode, n / 2, opcode == KV_LIST ? PAGE : VALUE);
-    uint32_t number = measured();
-    return number != 0 || status() != 0;
+    return argv[3][0] == 'm' && !measured();
 }

@@ -1,5 +1,5 @@
 -- What is known of tests that hold or fail, and of tables of them: where all hold, or none. Assumes nothing.
-use mathlib.Core.Path.{_≡_, refl}
+use mathlib.Core.Path.{_≡_, refl, sym}
 use mathlib.Core.Bool.{Bool, true, false, cond, not, _&&_, _||_}
 use mathlib.Core.List.{List, [], _∷_}
 use Prim.Native.Nat.{ℕ, _<_}
@@ -47,6 +47,15 @@ true-and b (c ∷ bs) e a = true-and (b && c) bs (rw (e, a .0)) (a .1)
 pub true-all : (bs : List Bool) → All bs → all bs ≡ true
 true-all [] a = refl
 true-all (b ∷ bs) a = true-and b bs (a .0) (a .1)
+
+-- a test that fails decides, and one that holds leaves it to those behind it
+pub and-fails : (b : Bool) (bs : List Bool) → b ≡ false → false ≡ and b bs
+and-fails b [] e = sym e
+and-fails b (c ∷ bs) e = and-fails (b && c) bs (rw e)
+
+pub and-holds : (b : Bool) (bs : List Bool) → b ≡ true → all bs ≡ and b bs
+and-holds b [] e = sym e
+and-holds b (c ∷ bs) e = rw e
 
 -- ---- none holds
 

@@ -1,7 +1,7 @@
 -- The order of keys by numbers: of equally many bytes by their big-endian number, and of keys with zeros behind them by those and
 -- then by their lengths; a key held as such numbers. Assumes nothing.
 use mathlib.Core.Path.{_≡_, refl, sym, ap, ap₂, _∙_}
-use mathlib.Core.Bool.{Bool, true, false, _&&_, _||_, and-assoc, and-true, and-false, or-false}
+use mathlib.Core.Bool.{Bool, true, _&&_, and-assoc, and-true}
 use mathlib.Core.List.{List, [], _∷_, _++_}
 use Prim.Native.Nat.{ℕ, zero, suc, _+_, _-_, _*_, _≤_, _<_}
 use native.Mathlib.Omega.{arith}
@@ -37,13 +37,24 @@ orderN-byte m n x y hx hy = by-high (tri m n) (tri x y)
 
 -- ---- the first order that is not Equal
 
-less-then : (m n : ℕ) (x : Bool) (o : Order) → x ≡ isLess o → (ltb m n || eqb m n && x) ≡ isLess (then (orderN m n) o)
-less-then m n x o e = by (tri m n)
+less-number : (m n : ℕ) → ltb m n ≡ isLess (orderN m n)
+less-number m n = by (tri m n)
   where
-    by : Tri m n → (ltb m n || eqb m n && x) ≡ isLess (then (orderN m n) o)
+    by : Tri m n → ltb m n ≡ isLess (orderN m n)
     by (less l) = rw (orderN-less m n l, lt-ltb m n l)
-    by (equal l) = rw (l, orderN-same n, le-ltb n n (omega arith), eq-eqb n n refl) e
-    by (more l) = rw (orderN-greater m n l, le-ltb m n (omega arith), ne-eqb m n (λ q. omega arith))
+    by (equal l) = rw (l, orderN-same n, le-ltb n n (omega arith))
+    by (more l) = rw (orderN-greater m n l, le-ltb m n (omega arith))
+
+then-same : (m n : ℕ) (o : Order) → m ≡ n → then (orderN m n) o ≡ o
+then-same m n o h = rw (h, orderN-same n)
+
+then-apart : (m n : ℕ) (o : Order) → (m ≡ n → ⊥) → then (orderN m n) o ≡ orderN m n
+then-apart m n o h = by (tri m n)
+  where
+    by : Tri m n → then (orderN m n) o ≡ orderN m n
+    by (less l) = rw (orderN-less m n l)
+    by (equal l) = absurd (h l)
+    by (more l) = rw (orderN-greater m n l)
 
 equal-then : (m n : ℕ) (x : Bool) (o : Order) → x ≡ isEqual o → (eqb m n && x) ≡ isEqual (then (orderN m n) o)
 equal-then m n x o e = by (tri m n)
@@ -159,12 +170,17 @@ widened-take n xs w b h l e =
 
 -- ---- what the tests on the numbers say
 
-less-last : (m n : ℕ) → ltb m n ≡ isLess (orderN m n)
-less-last m n = rw (and-false, or-false, then-equal) at (less-then m n false Equal refl)
+module _ (a b : Wide) where
+  pub less-high : (a .high ≡ b .high → ⊥) → ltb (a .high) (b .high) ≡ isLess (orderWide a b)
+  less-high h = less-number (a .high) (b .high) ∙ ap isLess (sym (then-apart (a .high) (b .high) _ h))
 
-pub less-wide : (a b : Wide)
-    → (ltb (a .high) (b .high) || eqb (a .high) (b .high) && (ltb (a .low) (b .low) || eqb (a .low) (b .low) && ltb (a .len) (b .len))) ≡ isLess (orderWide a b)
-less-wide a b = less-then (a .high) (b .high) _ _ (less-then (a .low) (b .low) _ _ (less-last (a .len) (b .len)))
+  pub less-low : a .high ≡ b .high → (a .low ≡ b .low → ⊥) → ltb (a .low) (b .low) ≡ isLess (orderWide a b)
+  less-low h l =
+      less-number (a .low) (b .low) ∙ ap isLess (sym (then-same (a .high) (b .high) _ h ∙ then-apart (a .low) (b .low) _ l))
+
+  pub less-len : a .high ≡ b .high → a .low ≡ b .low → ltb (a .len) (b .len) ≡ isLess (orderWide a b)
+  less-len h l =
+      less-number (a .len) (b .len) ∙ ap isLess (sym (then-same (a .high) (b .high) _ h ∙ then-same (a .low) (b .low) _ l))
 
 equal-last : (m n : ℕ) → eqb m n ≡ isEqual (orderN m n)
 equal-last m n = rw (and-true, then-equal) at (equal-then m n true Equal refl)

@@ -56,11 +56,16 @@ pub fn widen(s: &[u8], at: usize, len: u64) -> Wide
     }
 }
 
-// No branch: the test stands in the loop over all records.
 pub fn less(a: Wide, b: Wide) -> bool
     ensures { λ r. ⌜ r ≡ isLess (orderWide a b) ⌝ }
 {
-    (a.high < b.high) | (a.high == b.high) & ((a.low < b.low) | (a.low == b.low) & (a.len < b.len))
+    if a.high != b.high {
+        return a.high < b.high;
+    }
+    if a.low != b.low {
+        return a.low < b.low;
+    }
+    a.len < b.len
 }
 
 pub fn equal(a: Wide, b: Wide) -> bool

@@ -76,13 +76,14 @@ fn slot_at(records: &[u8], at: usize) -> Slot
 fn slot_ok(r: Slot, before: Wide, total: u32, h: Head, f: Format) -> bool
     ensures { λ ok. ⌜ ok ≡ all (slotTests h f total before r) ⌝ }
 {
-    (1 <= r.length)
-        & (r.length <= (f.keymax as u32))
-        & (r.size <= f.valuemax)
-        & (r.place == total)
-        & (r.id == h.id)
-        & less(before, r.key)
-        & is_clear(r.key)
+    let sized = (1 <= r.length) & (r.length <= (f.keymax as u32)) & (r.size <= f.valuemax);
+    if !(sized & (r.place == total) & (r.id == h.id)) {
+        return false;
+    }
+    if !less(before, r.key) {
+        return false;
+    }
+    is_clear(r.key)
 }
 
 // The key before the first record is the empty one, which is below every other.
