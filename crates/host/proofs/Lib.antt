@@ -2,5 +2,4 @@
 -- page's entries.
 pub mod BuildLaws
 pub mod ReplyLaws
-pub mod PageKeyLaws
 mod LoopLaws
