@@ -140,6 +140,10 @@ joined-long : (u : List ℕ) (vs : List (List ℕ)) → length u ≤ length (joi
 joined-long u [] = omega arith
 joined-long u (v ∷ vs) = omega (arith, joined-long (u ++ v) vs, length-append u v)
 
+-- a put on what a list has become is one on what it came from
+pub put-on : {xs ys zs : List ℕ} (at : ℕ) (v : List ℕ) → ys ≡ xs → zs ≡ put at v ys → zs ≡ put at v xs
+put-on at v d e = e ∙ ap (put at v) d
+
 pub puts-joined : (at : ℕ) (u : List ℕ) (vs : List (List ℕ)) (xs : List ℕ) → at + length (joined u vs) ≤ length xs → puts at (u ∷ vs) xs ≡ put at (joined u vs) xs
 puts-joined at u [] xs h = refl
 puts-joined at u (v ∷ vs) xs h =

@@ -45,11 +45,11 @@ less-number m n = by (tri m n)
     by (equal l) = rw (l, orderN-same n, le-ltb n n (omega arith))
     by (more l) = rw (orderN-greater m n l, le-ltb m n (omega arith))
 
-then-same : (m n : ℕ) (o : Order) → m ≡ n → then (orderN m n) o ≡ o
-then-same m n o h = rw (h, orderN-same n)
+first-same : (m n : ℕ) (o : Order) → m ≡ n → then (orderN m n) o ≡ o
+first-same m n o h = rw (h, orderN-same n)
 
-then-apart : (m n : ℕ) (o : Order) → (m ≡ n → ⊥) → then (orderN m n) o ≡ orderN m n
-then-apart m n o h = by (tri m n)
+first-apart : (m n : ℕ) (o : Order) → (m ≡ n → ⊥) → then (orderN m n) o ≡ orderN m n
+first-apart m n o h = by (tri m n)
   where
     by : Tri m n → then (orderN m n) o ≡ orderN m n
     by (less l) = rw (orderN-less m n l)
@@ -172,15 +172,15 @@ widened-take n xs w b h l e =
 
 module _ (a b : Wide) where
   pub less-high : (a .high ≡ b .high → ⊥) → ltb (a .high) (b .high) ≡ isLess (orderWide a b)
-  less-high h = less-number (a .high) (b .high) ∙ ap isLess (sym (then-apart (a .high) (b .high) _ h))
+  less-high h = less-number (a .high) (b .high) ∙ ap isLess (sym (first-apart (a .high) (b .high) _ h))
 
   pub less-low : a .high ≡ b .high → (a .low ≡ b .low → ⊥) → ltb (a .low) (b .low) ≡ isLess (orderWide a b)
   less-low h l =
-      less-number (a .low) (b .low) ∙ ap isLess (sym (then-same (a .high) (b .high) _ h ∙ then-apart (a .low) (b .low) _ l))
+      less-number (a .low) (b .low) ∙ ap isLess (sym (first-same (a .high) (b .high) _ h ∙ first-apart (a .low) (b .low) _ l))
 
   pub less-len : a .high ≡ b .high → a .low ≡ b .low → ltb (a .len) (b .len) ≡ isLess (orderWide a b)
   less-len h l =
-      less-number (a .len) (b .len) ∙ ap isLess (sym (then-same (a .high) (b .high) _ h ∙ then-same (a .low) (b .low) _ l))
+      less-number (a .len) (b .len) ∙ ap isLess (sym (first-same (a .high) (b .high) _ h ∙ first-same (a .low) (b .low) _ l))
 
 equal-last : (m n : ℕ) → eqb m n ≡ isEqual (orderN m n)
 equal-last m n = rw (and-true, then-equal) at (equal-then m n true Equal refl)

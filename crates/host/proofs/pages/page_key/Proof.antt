@@ -3,4 +3,4 @@ use Rattle.host.proofs.pages.page_key.Statement.{statement}
 use Rattle.host.proofs.pages.page_key.Tie as tie
 
 pub page-key-spec : {M : Type 1} → statement M
-page-key-spec = tie.close (tie.spec (λ c. search needs) (λ c κs. search needs) (λ c. cc))
+page-key-spec = tie.close (tie.spec (λ c. search needs) (λ c κs. search needs) (λ c. rw (c .sixteen .ensures)))

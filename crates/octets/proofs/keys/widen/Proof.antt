@@ -17,4 +17,4 @@ widen-spec =
     (λ c.
     let a = c .before .before .before .args in
     let part-of = part-inside (a .at) 16 in
-    cc (rw add-zero at (part-of 0 8 (a .s .now) (omega arith)), part-of 8 8 (a .s .now) (omega arith))))
+    rw (rw add-zero at (part-of 0 8 (a .s .now) (omega arith)), part-of 8 8 (a .s .now) (omega arith), c .before .read-big .ensures, c .read-big2 .ensures)))

@@ -20,4 +20,7 @@ slot-at-spec =
     (λ c κs. search needs)
     (λ c. search needs)
     (λ c κs. search needs)
-    (λ c. simp (part-drop, add-zero) (cc)))
+    (λ c.
+    let r2 = c .before .before in
+    let w = r2 .before in
+    simp (part-drop, add-zero) (rw (c .read324 .ensures, c .before .read323 .ensures, r2 .read322 .ensures, w .widen .ensures, w .before .read32 .ensures))))

@@ -15,6 +15,7 @@ wide-key-spec =
     (λ c. search needs)
     (λ c κs. search needs)
     (λ c.
-    let a = c .before .before .before .args in
+    let p = c .before .before in
+    let a = p .before .args in
     let k = take (a .len) (a .key) in
-    cc (part-whole 16 (filled 16 k) (length-filled 16 k (simp length-take (omega arith))))))
+    rw (p .pad .ensures, part-whole 16 (filled 16 k) (length-filled 16 k (simp length-take (omega arith)))) at (c .widen .ensures)))

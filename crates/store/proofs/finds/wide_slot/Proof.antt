@@ -11,4 +11,4 @@ wide-slot-spec =
     (λ c κs. search needs)
     (λ c. search needs)
     (λ c κs. search needs)
-    (λ c. cc))
+    (λ c. rw (c .before .read32 .ensures) at (c .widen .ensures)))

@@ -1,8 +1,9 @@
+use mathlib.Core.Path.{_∙_}
 use mathlib.Core.List.{[], _∷_}
 use native.Mathlib.Omega.{arith}
 use borrow.Author.Needs.{needs}
 use Rattle.octets.specs.Octets.{bytes, zeros}
-use Rattle.octets.proofs.PartLaws.{puts-joined}
+use Rattle.octets.proofs.PartLaws.{put-on, puts-joined}
 use Rattle.store.specs.Image.{headOf}
 use Rattle.store.proofs.heads.write_head.Statement.{statement}
 use Rattle.store.proofs.heads.write_head.Tie as tie
@@ -19,5 +20,12 @@ write-head-spec =
     (λ c κs. search needs)
     (λ c. search needs)
     (λ c.
-    let a = c .before .before .before .before .before .before .before .before .before .before .before .before .before .before .before .before .before .before .before .before .before .args in
-    cc (puts-joined 0 (bytes 4 (a .h .id)) (bytes 4 (a .h .index) ∷ bytes 4 (a .h .size) ∷ bytes 4 (a .h .count) ∷ zeros 48 ∷ []) (a .directory .now) (omega arith))))
+    let w5 = c .before .before in
+    let w4 = w5 .before .before .before .before in
+    let w3 = w4 .before .before .before .before in
+    let w2 = w3 .before .before .before .before in
+    let w1 = w2 .before .before .before .before in
+    let a = w1 .before .before .before .args in
+    let e3 = put-on _ _ (put-on _ _ (w1 .write32 .ensures) (w2 .write322 .ensures)) (w3 .write323 .ensures) in
+    put-on _ _ (put-on _ _ e3 (w4 .write324 .ensures)) (w5 .clear .ensures)
+    ∙ puts-joined 0 (bytes 4 (a .h .id)) (bytes 4 (a .h .index) ∷ bytes 4 (a .h .size) ∷ bytes 4 (a .h .count) ∷ zeros 48 ∷ []) (a .directory .now) (omega arith)))

@@ -12,4 +12,6 @@ remove-record-spec =
     (λ c. search needs)
     (λ c κs. search needs)
     (λ c. search needs)
-    (λ c. cc))
+    (λ c.
+    let w = c .before .before in
+    rw (w .before .before .before .before .raise-places .ensures) at (w .remove-value .ensures)))

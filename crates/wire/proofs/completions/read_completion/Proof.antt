@@ -16,4 +16,8 @@ read-completion-spec =
     (λ c κs. search needs)
     (λ c κs. search needs)
     (λ c κs. search needs)
-    (λ c. cc))
+    (λ c.
+    let p = c .before .before in
+    let h = p .before in
+    let q = h .before .before in
+    rw (c .kind-of .ensures, c .before .status-of .ensures, p .phase-of .ensures, h .read164 .ensures, h .before .read163 .ensures, q .read162 .ensures, q .before .read32 .ensures, q .before .before .read16 .ensures)))

@@ -1,6 +1,7 @@
-use native.Mathlib.Omega.{arith}
+use mathlib.Core.Path.{_∙_}
 use borrow.Author.Needs.{needs}
 use Rattle.octets.specs.Octets.{part}
+use Rattle.octets.proofs.PartLaws.{put-on}
 use Rattle.wire.specs.Entry.{readCommand}
 use Rattle.wire.proofs.EntryLaws.{key-puts}
 use Rattle.wire.proofs.entries.read_entry.Statement.{statement}
@@ -28,4 +29,11 @@ read-entry-spec =
     (λ c. search needs)
     (λ c. search needs)
     (λ c κs. search needs)
-    (λ c. cc (key-puts (c .before .before .before .before .before .before .before .before .before .before .before .before .before .before .before .before .args .entry .now) (omega arith))))
+    (λ c.
+    let n = c .before .before .before in
+    let i = n .before in
+    let w2 = i .before .before .before .before in
+    let w1 = w2 .before .before .before .before in
+    let s = w1 .before .before .before .before in
+    let k = put-on _ _ (w1 .copy .ensures) (w2 .copy-at .ensures) ∙ key-puts (s .args .entry .now) (s .pre) in
+    rw (c .read322 .ensures, n .read32 .ensures, i .read16 .ensures, k)))
