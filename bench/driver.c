@@ -1,5 +1,5 @@
 /* One command on a store of n keys, for counting its instructions. `driver COMMAND N` writes that store to standard output; `driver
-   COMMAND N measure` reads it and gives the command once, and `driver COMMAND N skip` does all but that. */
+   COMMAND N give` reads it and gives the command once, and `driver COMMAND N skip` does all but that. */
 #include "kv.h"
 
 typedef struct file FILE;
@@ -54,5 +54,5 @@ int main(int argc, char **argv) {
         return !(filled(opcode, n) && fwrite(directory, sizeof directory, 1, stdout) && fwrite(values, SIZE, 1, stdout));
     if (!fread(directory, sizeof directory, 1, stdin) || !fread(values, SIZE, 1, stdin)) return 1;
     prepare(opcode, n / 2, opcode == KV_LIST ? PAGE : VALUE);
-    return argv[3][0] == 'm' && !measured();
+    return argv[3][0] == 'g' && !measured();
 }
