@@ -3,7 +3,7 @@
 use mathlib.Core.Path.{_≡_, refl, sym, ap, _∙_}
 use mathlib.Core.Bool.{Bool, true, false, cond}
 use mathlib.Core.List.{List}
-use Prim.Native.Nat.{ℕ}
+use Prim.Native.Nat.{ℕ, _+_, _≤_}
 use native.Mathlib.Nat.{zero-add}
 use native.Mathlib.Omega.{arith}
 use lib.ListN.{length, take, drop, length-append, length-take, length-drop}
@@ -186,20 +186,18 @@ alike-holds s m n h a =
       };
     }
 
-alike-index : (m n : Memory) → Alike m n → spaceOf (n .directory) (n .values) .index ≡ spaceOf (m .directory) (m .values) .index
+alike-word : (at : ℕ) (m n : Memory) → Alike m n → at + 4 ≤ 64 → number (part at 4 (n .directory)) ≡ number (part at 4 (m .directory))
 unfolding spaceOf
-alike-index m n a =
+alike-word at m n a h =
     let i = number (part 4 4 (m .directory)) in
-    ap number (sym (part-take 4 4 (needed i) (n .directory) (omega arith)) ∙ ap (part 4 4) (a .directory) ∙ part-take 4 4 (needed i) (m .directory) (omega arith))
-
-alike-size : (m n : Memory) → Alike m n → spaceOf (n .directory) (n .values) .size ≡ spaceOf (m .directory) (m .values) .size
-unfolding spaceOf
-alike-size m n a =
-    let i = number (part 4 4 (m .directory)) in
-    ap number (sym (part-take 8 4 (needed i) (n .directory) (omega arith)) ∙ ap (part 8 4) (a .directory) ∙ part-take 8 4 (needed i) (m .directory) (omega arith))
+    ap number (sym (part-take at 4 (needed i) (n .directory) (omega arith)) ∙ ap (part at 4) (a .directory) ∙ part-take at 4 (needed i) (m .directory) (omega arith))
 
 alike-turned : (m n : Memory) → Alike m n → Alike n m
-alike-turned m n a = record { directory = rw (alike-index m n a) (sym (a .directory)); values = rw (alike-size m n a) (sym (a .values)) }
+unfolding spaceOf
+alike-turned m n a = record {
+  directory = rw (alike-word 4 m n a (omega arith)) (sym (a .directory));
+  values = rw (alike-word 8 m n a (omega arith)) (sym (a .values));
+}
 
 alike-true : (m n : Memory) → Alike m n → legal (m .directory) (m .values) ≡ true → legal (n .directory) (n .values) ≡ true
 alike-true m n a e = let j = legal-holds m e in holds-legal (j .0) n (alike-holds (j .0) m n (j .1) a)

@@ -44,17 +44,9 @@ pub record Ready (k : Checked) (d v : List ℕ) : Type 0 where
   pub same-size : spaceOf d v .size ≡ k .head .size
   pub used : k .used ≡ used (spaceOf d v .pairs)
 
-index-in : (d v : List ℕ) → spaceOf d v .index ≡ headIn d .index
+same-head : (d v : List ℕ) → (spaceOf d v .index ≡ headIn d .index) × ((spaceOf d v .id ≡ headIn d .id) × (spaceOf d v .size ≡ headIn d .size))
 unfolding spaceOf headIn
-index-in d v = refl
-
-size-in : (d v : List ℕ) → spaceOf d v .size ≡ headIn d .size
-unfolding spaceOf headIn
-size-in d v = refl
-
-id-in : (d v : List ℕ) → spaceOf d v .id ≡ headIn d .id
-unfolding spaceOf headIn
-id-in d v = refl
+same-head d v = (refl, (refl, refl))
 
 pub ready : (k : Checked) (d v : List ℕ) → k ≡ checked d v → legal d v ≡ true → Ready k d v
 ready k d v e ok = rw (e ∙ checked-is d v ok) facts
@@ -72,9 +64,9 @@ ready k d v e ok = rw (e ∙ checked-is d v ok) facts
           count = ap length (sym (l .pairs)) ∙ length-pairs (headIn d .count) _ _;
           within = rw (l .space) (within-true _ (l .holds .limits));
           head = refl;
-          same-index = index-in d v;
-          same-id = id-in d v;
-          same-size = size-in d v;
+          same-index = same-head d v .0;
+          same-id = same-head d v .1 .0;
+          same-size = same-head d v .1 .1;
           used = refl;
         }
 

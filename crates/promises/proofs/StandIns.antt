@@ -61,18 +61,11 @@ three-entries : Entries three
 three-entries =
     (entry-64 0x01 0 B 1 0 [] (omega arith), (entry-64 0x01 0 A 1 1 (7 ∷ []) (omega arith), (entry-64 0x01 0 AB 2 0 [] (omega arith), tt)))
 
--- each of these is a line: what a call says on a map
-says-87-retrieve : answerTo empty (retrieve A (junk 1)) .status ≡ 0x87
+-- what calls say on a map: Retrieve of A before and after it is stored, and of B
+says-retrieve : (answerTo empty (retrieve A (junk 1)) .status ≡ 0x87)
+    × ((answerTo (after empty one) (retrieve A (junk 1)) .status ≡ 0x00) × (answerTo (after empty one) (retrieve B (junk 1)) .status ≡ 0x87))
 unfolding readCommand writeCommand part number answer statusOf steps
-says-87-retrieve = refl
-
-says-00-retrieve : answerTo (after empty one) (retrieve A (junk 1)) .status ≡ 0x00
-unfolding readCommand writeCommand part number answer statusOf steps
-says-00-retrieve = refl
-
-says-87-other : answerTo (after empty one) (retrieve B (junk 1)) .status ≡ 0x87
-unfolding readCommand writeCommand part number answer statusOf steps
-says-87-other = refl
+says-retrieve = (refl, (refl, refl))
 
 -- P6
 counts-0 : (answerTo empty (list [] (junk 4)) .status ≡ 0x00) × (number (part 0 4 (answerTo empty (list [] (junk 4)) .buffer)) ≡ 0)
@@ -110,7 +103,7 @@ module _ (d : Device) (keeps : Keeps d) where
   one-status st says =
       let x = retrieved [] tt in
       let y = listed 4 [] tt in
-      let p = sym (says [] (x .0) (post 0 1 1) _ _ _ (x .1 .done)) ∙ x .1 .says ∙ says-87-retrieve in
+      let p = sym (says [] (x .0) (post 0 1 1) _ _ _ (x .1 .done)) ∙ x .1 .says ∙ says-retrieve .0 in
       let q = sym (says [] (y .0) (post 0 1 1) _ _ _ (y .1 .done)) ∙ y .1 .says ∙ counts-0 .0 in
       omega arith
 
@@ -129,8 +122,8 @@ module _ (d : Device) (keeps : Keeps d) where
       let w = entry-64 0x02 0 A 1 1 (junk 1) (omega arith) in
       let e : d [] start (calling x) ≡ run start (calling x) = ap (λ (os : List Outcome). getD os 0 (run start (calling x))) (keeps start (calling x ∷ [])) in
       let m : run start (calling x) .after .memory ≡ start = ap (λ (o : Outcome). o .after .memory) (sym e) ∙ same [] start (post 0 1 1) _ _ _ in
-      let p = ran empty start y start-holds w .says ∙ says-87-retrieve in
-      let q = ran (after empty one) (leaves start (map calling one)) y (after-holds empty start one start-holds one-entries) w .says ∙ says-00-retrieve in
+      let p = ran empty start y start-holds w .says ∙ says-retrieve .0 in
+      let q = ran (after empty one) (leaves start (map calling one)) y (after-holds empty start one start-holds one-entries) w .says ∙ says-retrieve .1 .0 in
       let r = ap (λ (k : Memory). status (run k (calling y))) m in
       omega arith
 
@@ -138,7 +131,7 @@ module _ (d : Device) (keeps : Keeps d) where
   pub stand-in-idle : Idles d → ⊥
   stand-in-idle idle =
       let x = last-ran d keeps one (retrieve B (junk 1)) one-entries (entry-64 0x02 0 B 1 1 (junk 1) (omega arith)) in
-      let p = sym (idle (calling (store 0 A (7 ∷ []))) [] (x .0) (post 0 1 1) _ _ _) ∙ x .1 .says ∙ says-87-other in
+      let p = sym (idle (calling (store 0 A (7 ∷ []))) [] (x .0) (post 0 1 1) _ _ _) ∙ x .1 .says ∙ says-retrieve .1 .1 in
       omega arith
 
   -- "an invented page count": whatever the number, the List of P6 counts 0 keys and that of P1 counts 3

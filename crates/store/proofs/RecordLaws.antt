@@ -1,5 +1,5 @@
 -- What stands in the record of a pair, whatever stands behind it. Assumes nothing.
-use mathlib.Core.Path.{_≡_, ap, _∙_}
+use mathlib.Core.Path.{_≡_, refl, ap, _∙_}
 use mathlib.Core.List.{List, _++_, append-assoc}
 use Prim.Native.Nat.{ℕ, _+_, _-_, _^_, _≤_, _<_}
 use native.Mathlib.Omega.{arith}
@@ -37,21 +37,22 @@ module _ (id at : ℕ) (p : Pair) (short : length (p .key) ≤ 16) where
         let z = zeros (16 - length (p .key)) in
         rw (opened, append-assoc (p .key) z behind) (take-append-seam (p .key) (z ++ behind))
 
-    pub key-length-in : number (part 16 4 (recordOf id at p ++ x)) ≡ length (p .key)
+    -- the word at 16 + i of the record
+    word-in : (i v : ℕ) → take 4 (drop i behind) ≡ bytes 4 v → v < 2 ^ 32 → number (part (16 + i) 4 (recordOf id at p ++ x)) ≡ v
     unfolding part
-    key-length-in = ap (λ (ys : List ℕ). number (take 4 ys)) (past 0) ∙ number-bytes 4 (length (p .key)) (omega arith)
+    word-in i v e h = ap (λ (ys : List ℕ). number (take 4 ys)) (past i) ∙ ap number e ∙ number-bytes 4 v h
+
+    pub key-length-in : number (part 16 4 (recordOf id at p ++ x)) ≡ length (p .key)
+    key-length-in = word-in 0 (length (p .key)) refl (omega arith)
 
     pub place-in : at < 2 ^ 32 → number (part 20 4 (recordOf id at p ++ x)) ≡ at
-    unfolding part
-    place-in h = ap (λ (ys : List ℕ). number (take 4 ys)) (past 4) ∙ number-bytes 4 at h
+    place-in = word-in 4 at refl
 
     pub value-length-in : length (p .value) < 2 ^ 32 → number (part 24 4 (recordOf id at p ++ x)) ≡ length (p .value)
-    unfolding part
-    value-length-in h = ap (λ (ys : List ℕ). number (take 4 ys)) (past 8) ∙ number-bytes 4 (length (p .value)) h
+    value-length-in = word-in 8 (length (p .value)) refl
 
     pub id-in : id < 2 ^ 32 → number (part 28 4 (recordOf id at p ++ x)) ≡ id
-    unfolding part
-    id-in h = ap (λ (ys : List ℕ). number (take 4 ys)) (past 12) ∙ number-bytes 4 id h
+    id-in = word-in 12 id refl
 
     pub rest-in : drop 32 (recordOf id at p ++ x) ≡ x
     rest-in = past 16

@@ -1,7 +1,7 @@
 -- The puts that make a key of two halves, and an entry; a command that was written is read back. Assumes nothing.
 use mathlib.Core.Path.{_≡_, sym, subst, _∙_}
 use mathlib.Core.List.{List, [], _∷_, _++_}
-use Prim.Native.Nat.{ℕ, _%_, _^_, _<_}
+use Prim.Native.Nat.{ℕ, _%_, _^_, _≤_, _<_}
 use native.Mathlib.Omega.{arith}
 use lib.ListN.{length, length-append}
 use Rattle.octets.specs.Octets.{part, put, number, bytes, zeros}
@@ -17,21 +17,18 @@ key-puts e h =
     rw a at (puts-whole (part 8 8 e) (part 56 8 e ∷ []) (zeros 16) (simp length-append (omega arith)))
 
 module _ (c : Command) (k : length (c .key) ≡ 16) where
-  low : length (part 0 8 (c .key)) ≡ 8
-  low = length-part 0 8 (c .key) (omega arith)
-
-  high : length (part 8 8 (c .key)) ≡ 8
-  high = length-part 8 8 (c .key) (omega arith)
+  half : (i : ℕ) → i ≤ 8 → length (part i 8 (c .key)) ≡ 8
+  half i h = length-part i 8 (c .key) (omega arith)
 
   pub length-command : length (writeCommand c) ≡ 64
   unfolding writeCommand
-  length-command = simp length-append (omega (arith, low, high))
+  length-command = simp length-append (omega (arith, half 0 (omega arith), half 8 (omega arith)))
 
   pub entry-puts : (xs : List ℕ) → length xs ≡ 64
       → put 56 (part 8 8 (c .key)) (put 40 (dwordsOf c) (put 16 (zeros 24) (put 8 (part 0 8 (c .key)) (put 0 (frontOf c) xs)))) ≡ writeCommand c
   unfolding writeCommand
   entry-puts xs h =
-      rw low at (puts-whole (frontOf c) (part 0 8 (c .key) ∷ zeros 24 ∷ dwordsOf c ∷ part 8 8 (c .key) ∷ []) xs (length-command ∙ sym h))
+      rw (half 0 (omega arith)) at (puts-whole (frontOf c) (part 0 8 (c .key) ∷ zeros 24 ∷ dwordsOf c ∷ part 8 8 (c .key) ∷ []) xs (length-command ∙ sym h))
 
 -- each field within its bytes
 pub record Sound (c : Command) : Type 0 where
