@@ -1,5 +1,5 @@
-/* A model of module and host, written from document 01 and the arrangement in docs/DECISIONS.md (Memory) alone. It shares no code
- * with the libraries, with bench/hand.c or with the other tests, so that an error has to be made twice to pass. */
+/* A model of module and host, written from document 01 and the arrangement in docs/ARCHITECTURE.md alone. It shares no code
+ * with the libraries, with speed/hand.c or with the other tests, so that an error has to be made twice to pass. */
 #ifndef MODEL_H
 #define MODEL_H
 

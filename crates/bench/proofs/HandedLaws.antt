@@ -6,7 +6,7 @@ use mathlib.Core.List.{List, [], _∷_, _++_, append-assoc}
 use Prim.Native.Nat.{ℕ, _^_, _≤_, _<_, min}
 use native.Mathlib.Omega.{arith}
 use lib.ListN.{length, take, drop, length-append, length-take}
-use lib.Seq.{drop-at, take-at}
+use lib.Seq.{drop-at, take-append-seam}
 use borrow.Author.Tests.{le-ltb, le-leb}
 use Rattle.octets.specs.Octets.{part, number, bytes, put}
 use Rattle.octets.specs.Keys.{Key}
@@ -26,18 +26,11 @@ size-read k t h = number-bytes 2 (length k) (omega arith)
 entries-spanned : (ks : List Key) (t : List ℕ) → Sized ks → span (length ks) (entries ks ++ t) ≡ length (entries ks)
 entries-spanned [] t s = refl
 entries-spanned (k ∷ ks) t s =
-    let q : List ℕ = entries ks ++ t in
-    let n : ℕ = entrySize (length k) in
+    let q = entries ks ++ t in
+    let n = entrySize (length k) in
     let l : n ≤ length (pageEntry k ++ q) = simp (length-append, length-entry) (omega arith) in
-    rw (
-      append-assoc (pageEntry k) (entries ks) t,
-      size-read k q (s .1),
-      le-leb n (length (pageEntry k ++ q)) l,
-      drop-at (pageEntry k) q n (length-entry k),
-      entries-spanned ks t (s .2),
-      length-append,
-      length-entry,
-    )
+    rw (append-assoc (pageEntry k) (entries ks) t, size-read k q (s .1), le-leb n (length (pageEntry k ++ q)) l)
+    (rw (drop-at (pageEntry k) q n (length-entry k), entries-spanned ks t (s .2), length-append, length-entry))
 
 page-spanned : (ks : List Key) (t : List ℕ) → length ks < 256 ^ 4 → Sized ks → pageSpan (page ks ++ t) ≡ length (page ks)
 unfolding pageSpan page part
@@ -49,14 +42,14 @@ module _ (c : Command) (dword0 : ℕ) (b : List ℕ) where
       → take (givenOf c dword0 (put 0 (page ks) b)) (put 0 (page ks) b) ≡ page ks
   unfolding givenOf
   list-handed ks e n s =
-      rw (e, put-front, page-spanned ks (drop (length (page ks)) b) n s) (take-at (page ks) _ (length (page ks)) refl)
+      rw (e, put-front, page-spanned ks (drop (length (page ks)) b) n s) (take-append-seam (page ks) _)
 
   pub retrieve-handed : (v : List ℕ) → isList (c .opcode) ≡ false → dword0 ≡ length v → c .amount ≤ length b
       → take (givenOf c dword0 (put 0 (take (c .amount) v) b)) (put 0 (take (c .amount) v) b) ≡ take (c .amount) v
   unfolding givenOf
   retrieve-handed v e d h =
-      let w : List ℕ = take (c .amount) v in
-      let l : length w ≡ min (c .amount) (length v) = length-take (c .amount) v in
-      let o : length (put 0 w b) ≡ length b = length-put 0 w b (omega arith) in
+      let w = take (c .amount) v in
+      let l = length-take (c .amount) v in
+      let o = length-put 0 w b (omega arith) in
       let n : min (min (c .amount) dword0) (length (put 0 w b)) ≡ length w = omega arith in
-      rw (e, n, put-front) (take-at w _ (length w) refl)
+      rw (e, n, put-front) (take-append-seam w _)

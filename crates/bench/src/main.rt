@@ -6,7 +6,7 @@ mod turns;
 
 use libc::STDIN_FILENO;
 use libc::STDOUT_FILENO;
-use module::formatting::kv_format;
+use module::kv_format;
 use turns::head_of;
 use turns::is_store;
 use turns::room_of;

@@ -1,7 +1,7 @@
 // One entry: its data buffer, the command, and what is printed of it.
 use crate::spans::page_span;
 use crate::texts::write_line;
-use module::commands::step;
+use commands::commands::step;
 use wire::completions::read_completion;
 use wire::entries::Command;
 use wire::entries::LIST;
@@ -109,7 +109,9 @@ pub fn turn(
     requires { ⌜ length (now entry) ≡ 64 ⌝ }
     requires { ⌜ length (now buffer) ≤ 4096 ⌝ }
     requires { ⌜ length (now text) ≡ 8226 ⌝ }
-    ensures { λ r. ⌜ turned r (now (text .exit)) (now (buffer .exit)) (now (directory .exit)) (now (values .exit)) ≡ turnOf head (now (entry .entry)) (now (text .entry)) (now (buffer .entry)) (now (directory .entry)) (now (values .entry)) ⌝ }
+    ensures { λ r.
+        ⌜ turned r (now (text .exit)) (now (buffer .exit)) (now (directory .exit)) (now (values .exit))
+        ≡ turnOf head (now (entry .entry)) (now (text .entry)) (now (buffer .entry)) (now (directory .entry)) (now (values .entry)) ⌝ }
     ensures { λ r. ⌜ Counts r (now (text .exit)) ⌝ }
 {
     let mut completion = [0u8; 16];

@@ -1,4 +1,4 @@
--- What the builder gives, return by return of the code; and an entry that was built is read as the command that was asked for.
+-- What the builder writes where nothing is refused; and an entry that was built is read as the command that was asked for.
 -- Assumes nothing.
 use mathlib.Core.Path.{_≡_}
 use mathlib.Core.Bool.{Bool, true, false, cond, _||_}
@@ -7,34 +7,19 @@ use Prim.Native.Nat.{ℕ, _^_, _≤_, _<_}
 use native.Mathlib.Omega.{arith}
 use lib.ListN.{length}
 use lib.Seq.{take-append-seam}
-use borrow.Author.Tests.{eq-eqb, ne-eqb, lt-ltb, le-ltb, ltb-false}
+use borrow.Author.Tests.{eq-eqb, le-ltb, ltb-false}
 use Rattle.octets.specs.Keys.{Key}
 use Rattle.octets.proofs.TestLaws.{none-holds}
 use Rattle.octets.proofs.ZeroLaws.{length-filled}
 use Rattle.wire.specs.Entry.{readCommand, writeCommand, known, isDelete, isExist, keyOf}
 use Rattle.wire.proofs.EntryLaws.{command-back}
-use Rattle.host.specs.Build.{amountOf, command, buildSteps, built, build}
+use Rattle.host.specs.Build.{command, buildSteps, built, build}
 
-amount-below : (o n b : ℕ) → n < b → amountOf o n < b
-amount-below o n b h = go (isDelete o || isExist o)
-  where
-    go : (x : Bool) → cond x 0 n < b
-    go true = omega arith
-    go false = h
+zero-below : (x : Bool) (n b : ℕ) → n < b → cond x 0 n < b
+zero-below true n b h = omega arith
+zero-below false n b h = h
 
 module _ (o cid nsid : ℕ) (k : Key) (dword10 options : ℕ) (e : List ℕ) where
-  pub build-1 : (length e ≡ 64 → ⊥) → built 1 e ≡ build e o cid nsid k dword10 options
-  unfolding build
-  build-1 h = rw (ne-eqb (length e) 64 h)
-
-  pub build-12 : length e ≡ 64 → 16 < length k → built 12 e ≡ build e o cid nsid k dword10 options
-  unfolding build
-  build-12 h l = rw (eq-eqb (length e) 64 h, lt-ltb 16 (length k) l)
-
-  pub build-13 : length e ≡ 64 → length k ≤ 16 → known o ≡ false → built 13 e ≡ build e o cid nsid k dword10 options
-  unfolding build
-  build-13 h l n = rw (eq-eqb (length e) 64 h, le-ltb 16 (length k) l, n)
-
   pub build-0 : length e ≡ 64 → length k ≤ 16 → known o ≡ true
       → built 0 (writeCommand (command o cid nsid k dword10 options)) ≡ build e o cid nsid k dword10 options
   unfolding build
@@ -50,12 +35,6 @@ module _ (o cid nsid : ℕ) (k : Key) (dword10 options : ℕ) (e : List ℕ) whe
   unfolding build command
   build-read h hc hn hd =
       let r = none-holds (buildSteps e o k) tt h in
-      rw h
-      (command-back (command o cid nsid k dword10 options)
-      (record {
-        fused-in = omega arith;
-        cid-in = hc;
-        nsid-in = hn;
-        amount-in = amount-below o dword10 (256 ^ 4) hd;
-        key-in = length-filled 16 k (ltb-false 16 (length k) (r .1 .0));
-      }))
+      let a = zero-below (isDelete o || isExist o) dword10 (256 ^ 4) hd in
+      let l = length-filled 16 k (ltb-false 16 (length k) (r .1 .0)) in
+      rw h (command-back _ (record { fused-in = omega arith; cid-in = hc; nsid-in = hn; amount-in = a; key-in = l }))

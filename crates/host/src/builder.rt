@@ -1,5 +1,5 @@
 // The builder of entries.
-use crate::keys::sixteen;
+use octets::keys::pad;
 use wire::entries;
 use wire::entries::Command;
 use wire::entries::DELETE;
@@ -52,7 +52,7 @@ fn command_of(opcode: u8, cid: u16, nsid: u32, key: &[u8], dword10: u32, options
         fused: 0,
         cid,
         nsid,
-        key: sixteen(key),
+        key: pad(key),
         len: key.len() as u8,
         options: options_of(opcode, options),
         amount: amount_of(opcode, dword10),

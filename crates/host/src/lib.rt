@@ -2,6 +2,5 @@
 // definition of `specs/`, refusals too, and asks nothing of the caller.
 pub mod builder;
 mod entries;
-mod keys;
 pub mod pages;
 pub mod replies;

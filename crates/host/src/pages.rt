@@ -1,6 +1,6 @@
 // The reader of List pages.
 use crate::entries::read_page_entry;
-use crate::keys::sixteen;
+use octets::keys::pad;
 use octets::words;
 use wire::pages::page_entry_size;
 ghost use mathlib.Core.Path.{_≡_};
@@ -38,7 +38,7 @@ fn page_key(count: u32, key: &[u8]) -> PageKey
         number: 0,
         count,
         len: key.len() as u32,
-        key: sixteen(key),
+        key: pad(key),
     }
 }
 

@@ -1,6 +1,6 @@
 -- Zeros behind a key, by its two big-endian numbers. Assumes nothing.
 use mathlib.Core.Path.{_≡_, refl, sym, ap, _∙_}
-use mathlib.Core.Bool.{Bool, true, false, _&&_, and-comm, and-true}
+use mathlib.Core.Bool.{Bool, true, _&&_, and-comm, and-true}
 use mathlib.Core.List.{List, [], _∷_, _++_}
 use Prim.Native.Nat.{ℕ, zero, suc, _+_, _-_, _*_, _%_, _^_, _≤_, _<_}
 use native.Mathlib.Nat.{zero-add, zero-mul, add-assoc, add-mul, mul-assoc, mul-le-mul-right, mul-add-mod-self-right}
@@ -9,9 +9,11 @@ use lib.Dec.{ltb, eqb}
 use lib.Pow.{pow-pos, pow-add, shl-exact}
 use lib.ListN.{length, take, drop, length-drop, take-append-drop, drop-of-length-le}
 use lib.Seq.{drop-append-le}
-use borrow.Author.Tests.{ne-eqb, ltb-true, ltb-false}
+use borrow.Author.Tests.{ne-eqb, le-ltb, ltb-true, ltb-false}
+use Rattle.octets.specs.declared.keys.Wide.{Wide}
 use Rattle.octets.specs.Octets.{part, allZero}
 use Rattle.octets.specs.Keys.{big, bigFrom, wideOf, clearWide}
+use Rattle.octets.proofs.TestLaws.{known, holds, fails}
 use Rattle.octets.proofs.PartLaws.{length-part, drop-past}
 use Rattle.octets.proofs.ZeroLaws.{zero-append}
 use Rattle.octets.proofs.WideLaws.{halves}
@@ -25,9 +27,7 @@ shifted : (m y p b : ℕ) → (m * 256 + y) * p + b ≡ m * (256 * p) + (y * p +
 shifted m y p b = rw (add-mul (m * 256) y p, mul-assoc m 256 p) (add-assoc (m * (256 * p)) (y * p) b)
 
 more-bytes : (k : ℕ) → 2 ^ (8 * suc k) ≡ 256 * 2 ^ (8 * k)
-more-bytes k =
-    let e : 8 * suc k ≡ 8 + 8 * k = omega arith in
-    rw (e, pow-add 2 8 (8 * k))
+more-bytes k = ap (_^_ 2) (omega arith) ∙ pow-add 2 8 (8 * k)
 
 -- a number before ys stands above it
 big-high : (m : ℕ) (ys : List ℕ) → bigFrom m ys ≡ m * 2 ^ (8 * length ys) + bigFrom 0 ys
@@ -85,23 +85,31 @@ module _ (n : ℕ) (xs : List ℕ) (b : Bytes xs) (l : length xs ≡ 16) where
 
   low : n < 8 → (eqb (big (part 8 8 xs)) 0 && eqb (big (part 0 8 xs) * 2 ^ (8 * n) % 2 ^ 64) 0) ≡ allZero (drop n xs)
   low h =
-      rw (zero-big (part 8 8 xs), eight n (part 0 8 xs) (bytes-part 0 8 xs b (omega arith)) front (omega arith))
-      (and-comm (allZero (part 8 8 xs)) (allZero (drop n (part 0 8 xs)))
-      ∙ sym (ap (λ (ys : List ℕ). allZero (drop n ys)) (halves xs l) ∙ ap allZero (drop-append-le n (part 0 8 xs) (part 8 8 xs) (omega (arith, front))) ∙ zero-append (drop n (part 0 8 xs)) (part 8 8 xs)))
+      let p = part 0 8 xs in
+      let q = part 8 8 xs in
+      let d = ap (drop n) (halves xs l) ∙ drop-append-le n p q (omega (arith, front)) in
+      let e = eight n p (bytes-part 0 8 xs b (omega arith)) front (omega arith) in
+      rw (zero-big q, e, d, zero-append (drop n p) q) (and-comm (allZero q) (allZero (drop n p)))
 
   high : 8 ≤ n → n ≤ 16 → eqb (big (part 8 8 xs) * 2 ^ (8 * (n - 8)) % 2 ^ 64) 0 ≡ allZero (drop n xs)
   high h k =
-      let m : n ≡ 8 + (n - 8) = omega arith in
-      eight (n - 8) (part 8 8 xs) (bytes-part 8 8 xs b (omega arith)) (length-part 8 8 xs (omega arith)) (omega arith)
-      ∙ sym (ap (λ (j : ℕ). allZero (drop j xs)) m ∙ ap (λ (ys : List ℕ). allZero (drop (8 + (n - 8)) ys)) (halves xs l) ∙ ap allZero (drop-past (part 0 8 xs) (part 8 8 xs) 8 (n - 8) front))
+      let m : 8 + (n - 8) ≡ n = omega arith in
+      let q = part 8 8 xs in
+      let d = ap (drop (8 + (n - 8))) (halves xs l) ∙ drop-past (part 0 8 xs) q 8 (n - 8) front in
+      eight (n - 8) q (bytes-part 8 8 xs b (omega arith)) (length-part 8 8 xs (omega arith)) (omega arith) ∙ rw (← d, m)
 
   pub clear-wide : n ≤ 16 → clearWide (wideOf xs n) ≡ allZero (drop n xs)
   unfolding clearWide wideOf
-  clear-wide h = by (ltb n 8) refl (ltb n 16) refl
-    where
-      by : (x : Bool) → ltb n 8 ≡ x → (y : Bool) → ltb n 16 ≡ y → clearWide (wideOf xs n) ≡ allZero (drop n xs)
-      by true p y q = rw p (low (ltb-true n 8 p))
-      by false p true q = rw (p, q) (high (ltb-false n 8 p) h)
-      by false p false q =
-          let m : length xs ≤ n = omega (arith, ltb-false n 16 q) in
-          rw (p, q, drop-of-length-le xs m)
+  clear-wide h =
+      elim (known (ltb n 8)) [
+        | holds p ↦ rw p (low (ltb-true n 8 p))
+        | fails p ↦ elim (known (ltb n 16)) [
+          | holds q ↦ rw (p, q) (high (ltb-false n 8 p) h)
+          | fails q ↦ rw (p, q, drop-of-length-le xs {i = n} (omega (arith, ltb-false n 16 q)))
+        ]
+      ]
+
+-- a key of eight bytes or more whose low number is zero
+pub clear-low : (w : Wide) → 8 ≤ w .len → w .low ≡ 0 → true ≡ clearWide w
+unfolding clearWide
+clear-low w h e = rw (le-ltb (w .len) 8 h, e, zero-mul) (elim (known (ltb (w .len) 16)) [ holds f ↦ rw f | fails f ↦ rw f ])

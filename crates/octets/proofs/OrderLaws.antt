@@ -1,11 +1,11 @@
 -- Key order is total and transitive; what rising keys have. Assumes nothing.
-use mathlib.Core.Path.{_≡_, refl, ap, _∙_}
-use mathlib.Core.Bool.{true}
+use mathlib.Core.Path.{_≡_, refl, sym, ap, _∙_}
+use mathlib.Core.Bool.{Bool, true, false, cond}
 use mathlib.Core.List.{List, [], _∷_}
-use mathlib.Core.Logic.{_⊎_, inl, inr}
-use Prim.Native.Nat.{ℕ, zero, suc, _<_}
+use Prim.Native.Nat.{ℕ, _<_}
 use native.Mathlib.Omega.{arith}
-use borrow.Author.Tests.{lt-ltb, le-ltb}
+use lib.Dec.{ltb}
+use borrow.Author.Tests.{lt-ltb, le-ltb, ltb-true, ltb-false}
 use Rattle.octets.specs.declared.keys.Order.{Order}
 use Rattle.octets.specs.declared.keys.Order.the-variants.{Less, Equal, Greater}
 use Rattle.octets.specs.Keys.{Key, orderN, then, order, isLess, below, rising}
@@ -13,49 +13,24 @@ use Rattle.octets.proofs.TestLaws.{both}
 
 -- ---- numbers
 
-pub data Tri (m n : ℕ) : Type 0 where
-  less : m < n → Tri m n
-  equal : m ≡ n → Tri m n
-  more : n < m → Tri m n
+-- what the order of two numbers says of them
+abbrev pub Ordered : ℕ → ℕ → Order → Type 0
+Ordered m n Less = m < n
+Ordered m n Equal = m ≡ n
+Ordered m n Greater = n < m
 
-tri-suc : {m n : ℕ} → Tri m n → Tri (suc m) (suc n)
-tri-suc (less h) = less (omega arith)
-tri-suc (equal h) = equal (omega arith)
-tri-suc (more h) = more (omega arith)
+pub orderN-is : (m n : ℕ) (o : Order) → Ordered m n o → orderN m n ≡ o
+orderN-is m n Less h = rw (lt-ltb m n h)
+orderN-is m n Equal h = rw (h, le-ltb n n (omega arith))
+orderN-is m n Greater h = rw (le-ltb m n (omega arith), lt-ltb n m h)
 
-pub tri : (m n : ℕ) → Tri m n
-tri zero zero = equal refl
-tri zero (suc n) = less (omega arith)
-tri (suc m) zero = more (omega arith)
-tri (suc m) (suc n) = tri-suc (tri m n)
-
-pub orderN-less : (m n : ℕ) → m < n → orderN m n ≡ Less
-orderN-less m n h = rw (lt-ltb m n h)
-
-pub orderN-greater : (m n : ℕ) → n < m → orderN m n ≡ Greater
-orderN-greater m n h = rw (le-ltb m n (omega arith), lt-ltb n m h)
-
-pub orderN-same : (n : ℕ) → orderN n n ≡ Equal
-orderN-same n = rw (le-ltb n n (omega arith))
-
--- the order of two numbers, and what it says of them
-orderN-eq : (m n : ℕ) → orderN m n ≡ Equal → m ≡ n
-orderN-eq m n e = by (tri m n)
+pub ordered : (m n : ℕ) → Ordered m n (orderN m n)
+ordered m n = by (ltb m n) refl (ltb n m) refl
   where
-    by : Tri m n → m ≡ n
-    by (less h) = cc (orderN-less m n h)
-    by (equal h) = h
-    by (more h) = cc (orderN-greater m n h)
-
-orderN-lt : (m n : ℕ) → orderN m n ≡ Less → m < n
-orderN-lt m n e = by (tri m n)
-  where
-    by : Tri m n → m < n
-    by (less h) = h
-    by (equal h) =
-        let s : orderN m n ≡ Equal = rw h (orderN-same n) in
-        absurd (let z : _≡_ {A = ℕ} 0 1 = cc in omega arith)
-    by (more h) = absurd (let z : _≡_ {A = ℕ} 0 1 = cc (orderN-greater m n h) in omega arith)
+    by : (x : Bool) → ltb m n ≡ x → (y : Bool) → ltb n m ≡ y → Ordered m n (cond x Less (cond y Greater Equal))
+    by true e y f = ltb-true m n e
+    by false e true f = ltb-true n m f
+    by false e false f = omega (arith, ltb-false m n e, ltb-false n m f)
 
 abbrev pub flip : Order → Order
 flip Less = Greater
@@ -63,12 +38,12 @@ flip Equal = Equal
 flip Greater = Less
 
 orderN-flip : (m n : ℕ) → orderN n m ≡ flip (orderN m n)
-orderN-flip m n = by (tri m n)
+orderN-flip m n = orderN-is n m (flip (orderN m n)) (by (orderN m n) (ordered m n))
   where
-    by : Tri m n → orderN n m ≡ flip (orderN m n)
-    by (less h) = rw (orderN-less m n h, orderN-greater n m h)
-    by (equal h) = rw (h, orderN-same n)
-    by (more h) = rw (orderN-greater m n h, orderN-less n m h)
+    by : (o : Order) → Ordered m n o → Ordered n m (flip o)
+    by Less h = h
+    by Equal h = sym h
+    by Greater h = h
 
 -- ---- the first order that is not Equal
 
@@ -82,16 +57,6 @@ then-equal Less = refl
 then-equal Equal = refl
 then-equal Greater = refl
 
-then-less : (x o : Order) → then x o ≡ Less → (x ≡ Less) ⊎ ((x ≡ Equal) × (o ≡ Less))
-then-less Less o e = inl refl
-then-less Equal o e = inr (refl, e)
-then-less Greater o e = inl e
-
-then-same : (x o : Order) → then x o ≡ Equal → (x ≡ Equal) × (o ≡ Equal)
-then-same Less o e = (e, cc)
-then-same Equal o e = (refl, e)
-then-same Greater o e = (e, cc)
-
 pub flip-then : (x o : Order) → then (flip x) (flip o) ≡ flip (then x o)
 flip-then Less o = refl
 flip-then Equal o = refl
@@ -104,15 +69,18 @@ Below j k = order j k ≡ Less
 
 pub order-self : (k : Key) → order k k ≡ Equal
 order-self [] = refl
-order-self (x ∷ k) = rw (orderN-same x) (order-self k)
+order-self (x ∷ k) = rw (orderN-is x x Equal refl) (order-self k)
 
 pub order-eq : (j k : Key) → order j k ≡ Equal → j ≡ k
 order-eq [] [] e = refl
 order-eq [] (y ∷ k) e = cc
 order-eq (x ∷ j) [] e = cc
-order-eq (x ∷ j) (y ∷ k) e =
-    let s = then-same (orderN x y) (order j k) e in
-    cc (orderN-eq x y (s .0), order-eq j k (s .1))
+order-eq (x ∷ j) (y ∷ k) e = by (orderN x y) (ordered x y) e (order-eq j k)
+  where
+    by : (o : Order) → Ordered x y o → then o (order j k) ≡ Equal → (order j k ≡ Equal → j ≡ k) → x ∷ j ≡ y ∷ k
+    by Less h e r = cc
+    by Equal h e r = cc (r e)
+    by Greater h e r = cc
 
 pub order-flip : (j k : Key) → order k j ≡ flip (order j k)
 order-flip [] [] = refl
@@ -120,19 +88,19 @@ order-flip [] (y ∷ k) = refl
 order-flip (x ∷ j) [] = refl
 order-flip (x ∷ j) (y ∷ k) = rw (orderN-flip x y, order-flip j k) (flip-then (orderN x y) (order j k))
 
--- total: one below the other, or the same
+-- the three ways in which two keys compare, to split a proof by
 pub data Compared (j k : Key) : Type 0 where
-  lower : Below j k → Compared j k
-  alike : j ≡ k → Compared j k
-  higher : Below k j → Compared j k
+  less : Below j k → Compared j k
+  equal : order j k ≡ Equal → Compared j k
+  greater : order j k ≡ Greater → Compared j k
 
-pub total : (j k : Key) → Compared j k
-total j k = by (order j k) refl
+pub compared : (j k : Key) → Compared j k
+compared j k = by (order j k) refl
   where
     by : (o : Order) → order j k ≡ o → Compared j k
-    by Less e = lower e
-    by Equal e = alike (order-eq j k e)
-    by Greater e = higher (order-flip j k ∙ ap flip e)
+    by Less e = less e
+    by Equal e = equal e
+    by Greater e = greater e
 
 pub below-trans : (i j k : Key) → Below i j → Below j k → Below i k
 below-trans [] [] k e f = cc
@@ -141,14 +109,17 @@ below-trans [] (y ∷ j) (z ∷ k) e f = refl
 below-trans (x ∷ i) [] k e f = cc
 below-trans (x ∷ i) (y ∷ j) [] e f = f
 below-trans (x ∷ i) (y ∷ j) (z ∷ k) e f =
-    by (then-less (orderN x y) (order i j) e) (then-less (orderN y z) (order j k) f) (below-trans i j k)
+    by (orderN x y) (ordered x y) (orderN y z) (ordered y z) e f (below-trans i j k)
   where
-    by : ((orderN x y ≡ Less) ⊎ ((orderN x y ≡ Equal) × Below i j)) → ((orderN y z ≡ Less) ⊎ ((orderN y z ≡ Equal) × Below j k))
+    by : (o : Order) → Ordered x y o → (p : Order) → Ordered y z p → then o (order i j) ≡ Less → then p (order j k) ≡ Less
         → (Below i j → Below j k → Below i k) → then (orderN x z) (order i k) ≡ Less
-    by (inl p) (inl q) r = rw (orderN-less x z (omega (arith, orderN-lt x y p, orderN-lt y z q)))
-    by (inl p) (inr q) r = rw (orderN-less x z (omega (arith, orderN-lt x y p, orderN-eq y z (q .0))))
-    by (inr p) (inl q) r = rw (orderN-less x z (omega (arith, orderN-eq x y (p .0), orderN-lt y z q)))
-    by (inr p) (inr q) r = rw (← orderN-eq y z (q .0), p .0) (r (p .1) (q .1))
+    by Less h Less l e f r = rw (orderN-is x z Less (omega arith))
+    by Less h Equal l e f r = rw (orderN-is x z Less (omega arith))
+    by Equal h Less l e f r = rw (orderN-is x z Less (omega arith))
+    by Equal h Equal l e f r = rw (orderN-is x z Equal (omega arith)) (r e f)
+    by Less h Greater l e f r = cc
+    by Equal h Greater l e f r = cc
+    by Greater h p l e f r = cc
 
 -- the other way round
 pub below-greater : (j k : Key) → Below j k → order k j ≡ Greater

@@ -1,14 +1,17 @@
--- The laws of `part` and `put`: by elements, at a seam, of a part that was lent, of puts one behind the other, and of a part of a
--- part. Assumes nothing.
+-- The laws of `part` and `put`: by elements, at a seam, of a part that was lent, of puts one behind the other, of a part of a part,
+-- and of bytes that make room or close a gap. Assumes nothing.
 use mathlib.Core.Path.{_≡_, refl, sym, ap, _∙_}
 use mathlib.Core.List.{List, [], _∷_, _++_, append-nil, append-assoc}
 use Prim.Native.Nat.{ℕ, zero, suc, _+_, _-_, _≤_, _<_}
 use native.Mathlib.Nat.{zero-add, add-zero, add-assoc}
+use native.Mathlib.Decide.{decLt}
 use native.Mathlib.Omega.{arith}
-use lib.ListN.{length, take, drop, getD, set, drop-of-length-le, length-append, length-take, length-drop, take-append-drop, List·getD-append}
-use lib.Seq.{take-all, drop-cons, take-append-seam, drop-append-seam, drop-append-le, drop-append-add, take-at, drop-at, drop-drop, take-take, take-add, getD-take, getD-drop, getD-append-add, sets, sets-eq}
+use lib.ListN.{length, take, drop, getD, set, drop-of-length-le, length-append, length-take, length-drop, take-append-drop}
+use lib.ListN.{length-replicate, replicate-append-replicate}
+use lib.Seq.{take-all, drop-cons, take-append-seam, drop-append-seam, drop-append-le, drop-append-add, take-at, drop-at}
+use lib.Seq.{length-take-le, take-append-le, drop-drop, take-take, take-add, getD-take, getD-drop, sets, sets-eq}
 use borrow.Rule.Slice.PartMut.{putMid}
-use Rattle.octets.specs.Octets.{part, put}
+use Rattle.octets.specs.Octets.{part, put, zeros, filled}
 
 -- ---- element by element
 
@@ -20,9 +23,7 @@ each (suc k) at xs = getD xs at 0 ∷ each k (suc at) xs
 pub part-each : (k at : ℕ) (xs : List ℕ) → at + k ≤ length xs → part at k xs ≡ each k at xs
 unfolding part
 part-each zero at xs h = refl
-part-each (suc k) at xs h =
-    let l : at < length xs = omega arith in
-    rw (drop-cons xs at 0) (ap (λ (l : List ℕ). getD xs at 0 ∷ l) (part-each k (suc at) xs (omega arith)))
+part-each (suc k) at xs h = rw (drop-cons xs at 0 (omega arith)) (ap (_∷_ (getD xs at 0)) (part-each k (suc at) xs (omega arith)))
 
 -- stores one by one are a put
 pub sets-put : (at : ℕ) (vs xs : List ℕ) → at + length vs ≤ length xs → sets xs at vs ≡ put at vs xs
@@ -44,23 +45,6 @@ pub part-seam : (p q r : List ℕ) → part (length p) (length q) (p ++ q ++ r) 
 unfolding part
 part-seam p q r = rw (append-assoc p q r, drop-append-seam, take-append-seam)
 
--- bytes on either side of a put are as they were
-pub below-put : (at i : ℕ) (vs xs : List ℕ) → i < at → at ≤ length xs → getD (put at vs xs) i 0 ≡ getD xs i 0
-unfolding put
-below-put at i vs xs h k =
-    let l : i < length (take at xs) = simp length-take (omega arith) in
-    rw (append-assoc, List·getD-append, getD-take)
-
-pub above-put : (at i : ℕ) (vs xs : List ℕ) → at + length vs ≤ i → at + length vs ≤ length xs → getD (put at vs xs) i 0 ≡ getD xs i 0
-unfolding put
-above-put at i vs xs h k =
-    let n : ℕ = at + length vs in
-    let e : length (take at xs ++ vs) ≡ n = simp (length-append, length-take) (omega arith) in
-    let i-is : i ≡ n + (i - n) = omega arith in
-    let q : getD (take at xs ++ vs ++ drop n xs) (n + (i - n)) 0 ≡ getD (drop n xs) (i - n) 0 =
-    rw e at (getD-append-add (take at xs ++ vs) (drop n xs) (i - n) 0) in
-    rw (← i-is) at (q ∙ getD-drop n xs (i - n) 0)
-
 pub put-none : (at : ℕ) (xs : List ℕ) → put at [] xs ≡ xs
 unfolding put
 put-none at xs = rw (add-zero, append-nil, take-append-drop)
@@ -75,38 +59,46 @@ getD-part from n i xs h = rw (getD-take, getD-drop)
 
 -- ---- a part that was lent as `&mut` and has come back
 
--- a put in a part is a put in the whole
-pub put-inside : (a k at : ℕ) (vs xs : List ℕ) → at + length vs ≤ k → a + k ≤ length xs → put a (put at vs (part a k xs)) xs ≡ put (a + at) vs xs
+-- where it has a put at its front, the whole has that put
+pub lent-put : (a k : ℕ) (vs xs : List ℕ) {ys : List ℕ} → ys ≡ put 0 vs (part a k xs) → length vs ≤ k → a + k ≤ length xs
+    → putMid a k xs ys ≡ put a vs xs
 unfolding put part
-put-inside a k at vs xs h g =
-    let n : ℕ = at + length vs in
-    let l : length (take k (drop a xs)) ≡ k = length-part a k xs g in
-    let m : length (take at (take k (drop a xs)) ++ vs ++ drop n (take k (drop a xs))) ≡ k = length-put at vs (part a k xs) (omega arith) ∙ l in
-    let e : at ≤ k = omega arith in
-    let r : drop n (drop a xs) ≡ drop n (take k (drop a xs)) ++ drop k (drop a xs) =
-    ap (drop n) (sym (take-append-drop k (drop a xs))) ∙ drop-append-le n (take k (drop a xs)) (drop k (drop a xs)) (omega arith) in
-    rw (m, ← drop-drop k a xs, take-take at k, take-add a at xs, add-assoc a at (length vs), ← drop-drop n a xs, r) (simp append-assoc)
-
--- what was lent comes back at its place; where it comes back with a put in it, the whole has that put
-pub lent : (a k : ℕ) (xs ys : List ℕ) → length ys ≡ k → putMid a k xs ys ≡ put a ys xs
-unfolding put
-lent a k xs ys e = rw (e, drop-drop, append-assoc)
-
-pub lent-put : (a k at : ℕ) (vs xs ys : List ℕ) → at + length vs ≤ k → a + k ≤ length xs → ys ≡ put at vs (part a k xs) → putMid a k xs ys ≡ put (a + at) vs xs
-lent-put a k at vs xs ys h g e =
-    let l : length (part a k xs) ≡ k = length-part a k xs g in
-    lent a k xs ys (rw e (length-put at vs (part a k xs) (omega arith) ∙ l)) ∙ rw e (put-inside a k at vs xs h g)
+lent-put a k vs xs e h g =
+    let d = drop a xs in
+    let l : length (take k d) ≡ k = length-part a k xs g in
+    let r = drop-append-le (length vs) (take k d) (drop k d) (omega arith) in
+    rw (e, zero-add, ← drop-drop (length vs) a xs, rw (take-append-drop k d) at r, append-assoc (take a xs) vs, append-assoc vs)
 
 -- a put behind a put is one put
 pub put-next : (at : ℕ) (us vs xs : List ℕ) → at + length us + length vs ≤ length xs → put (at + length us) vs (put at us xs) ≡ put at (us ++ vs) xs
 unfolding put
 put-next at us vs xs h =
-    let l : length (take at xs ++ us) ≡ at + length us = simp (length-append, length-take) (omega arith) in
-    rw (take-at (take at xs ++ us) (drop (at + length us) xs) (at + length us) l, ← drop-drop (length vs) (at + length us) (take at xs ++ us ++ drop (at + length us) xs), drop-at (take at xs ++ us) (drop (at + length us) xs) (at + length us) l, drop-drop, length-append, ← add-assoc at, ← append-assoc (take at xs) us vs)
+    let n = at + length us in
+    let p = take at xs ++ us in
+    let d = drop n xs in
+    let l : length p ≡ n = simp (length-append, length-take) (omega arith) in
+    rw (take-at p d n l, ← drop-drop (length vs) n (p ++ d), drop-at p d n l, drop-drop, length-append, ← add-assoc at, ← append-assoc (take at xs) us vs)
 
 -- the same, of slices: ys has the first put, and zs the second
-pub put-then : (at n : ℕ) (us vs xs ys zs : List ℕ) → zs ≡ put n vs ys → ys ≡ put at us xs → n ≡ at + length us → n + length vs ≤ length xs → zs ≡ put at (us ++ vs) xs
+pub put-then : (at n : ℕ) (us vs xs ys zs : List ℕ) → zs ≡ put n vs ys → ys ≡ put at us xs → n ≡ at + length us → n + length vs ≤ length xs
+    → zs ≡ put at (us ++ vs) xs
 put-then at n us vs xs ys zs g e f h = rw (g, e, f) (put-next at us vs xs (omega arith))
+
+-- a list put part by part, as far as it goes
+pub put-part : (at k : ℕ) (vs xs ys zs : List ℕ) → zs ≡ put at (part at k vs) ys → ys ≡ put 0 (take at vs) xs → length vs ≤ length xs
+    → zs ≡ put 0 (take (at + k) vs) xs
+unfolding part
+put-part at k vs xs ys zs g e h = rw take-add (elim (decLt (length vs) at) [ yes s ↦ behind (omega arith) | no s ↦ inside (omega (arith, s)) ])
+  where
+    inside : at ≤ length vs → zs ≡ put 0 (take at vs ++ take k (drop at vs)) xs
+    inside t =
+        let l : length (take at vs) ≡ at = length-take-le at vs t in
+        put-then 0 at (take at vs) (take k (drop at vs)) xs ys zs g e (omega arith) (simp (length-take, length-drop) (omega arith))
+
+    behind : length vs ≤ at → zs ≡ put 0 (take at vs ++ take k (drop at vs)) xs
+    behind t =
+        let n : take k (drop at vs) ≡ [] = rw drop-of-length-le (take-all k [] (omega arith)) in
+        rw (n, append-nil) (rw (n, put-none at ys) at g ∙ e)
 
 -- a part by two
 pub part-two : (from m n : ℕ) (xs : List ℕ) → part from (m + n) xs ≡ part from m xs ++ part (from + m) n xs
@@ -119,9 +111,7 @@ unfolding put
 put-front vs xs = rw zero-add
 
 pub put-all : (vs xs : List ℕ) → length vs ≡ length xs → put 0 vs xs ≡ vs
-put-all vs xs h =
-    let l : length xs ≤ length vs = omega arith in
-    put-front vs xs ∙ rw drop-of-length-le (append-nil vs)
+put-all vs xs h = put-front vs xs ∙ rw (drop-of-length-le xs {i = length vs} (omega arith)) (append-nil vs)
 
 -- a store is a put of one byte
 pub put-one : (at a : ℕ) (xs : List ℕ) → at < length xs → set xs at a ≡ put at (a ∷ []) xs
@@ -144,7 +134,8 @@ joined-long u (v ∷ vs) = omega (arith, joined-long (u ++ v) vs, length-append 
 pub put-on : {xs ys zs : List ℕ} (at : ℕ) (v : List ℕ) → ys ≡ xs → zs ≡ put at v ys → zs ≡ put at v xs
 put-on at v d e = e ∙ ap (put at v) d
 
-pub puts-joined : (at : ℕ) (u : List ℕ) (vs : List (List ℕ)) (xs : List ℕ) → at + length (joined u vs) ≤ length xs → puts at (u ∷ vs) xs ≡ put at (joined u vs) xs
+pub puts-joined : (at : ℕ) (u : List ℕ) (vs : List (List ℕ)) (xs : List ℕ) → at + length (joined u vs) ≤ length xs
+    → puts at (u ∷ vs) xs ≡ put at (joined u vs) xs
 puts-joined at u [] xs h = refl
 puts-joined at u (v ∷ vs) xs h =
     let l : at + length u + length v ≤ length xs = omega (arith, joined-long (u ++ v) vs, length-append u v) in
@@ -185,3 +176,58 @@ part-inside at m from n xs h = part-take from n m (drop at xs) h ∙ part-drop a
 -- a rest behind a seam that is known by a number
 pub drop-past : (xs ys : List ℕ) (k n : ℕ) → length xs ≡ k → drop (k + n) (xs ++ ys) ≡ drop n ys
 drop-past xs ys k n e = rw (← e) (drop-append-add xs ys n)
+
+-- a put right before a put is one put
+pub put-ahead : (at : ℕ) (us vs xs : List ℕ) → at + length us ≤ length xs → put at us (put (at + length us) vs xs) ≡ put at (us ++ vs) xs
+unfolding put
+put-ahead at us vs xs h =
+    let n : ℕ = at + length us in
+    let l : length (take n xs) ≡ n = length-take-le n xs h in
+    let m : at ≤ length (take n xs) = omega arith in
+    let o : at ≤ n = omega arith in
+    rw (append-assoc (take n xs), take-append-le, take-take, drop-at, length-append, ← add-assoc) (simp append-assoc)
+
+-- a byte is stored, and the others are put behind it; or they are put before it
+pub put-first : (at a : ℕ) (vs xs : List ℕ) → at + suc (length vs) ≤ length xs → put (at + 1) vs (set xs at a) ≡ put at (a ∷ vs) xs
+put-first at a vs xs h = rw (put-one at a xs (omega arith)) (put-next at (a ∷ []) vs xs (omega arith))
+
+pub put-last : (at a : ℕ) (us xs : List ℕ) → at + length us < length xs → put at us (set xs (at + length us) a) ≡ put at (us ++ (a ∷ [])) xs
+put-last at a us xs h = rw (put-one (at + length us) a xs h) (put-ahead at us (a ∷ []) xs (omega arith))
+
+-- ---- of slices: n bytes make room for us and us is put there, n bytes close a gap of k and zeros are put behind them
+
+pub moved-up : (at n : ℕ) (us xs ys zs : List ℕ) → zs ≡ put at us ys → ys ≡ put (at + length us) (part at n xs) xs → at + length us + n ≤ length xs
+    → zs ≡ put at (us ++ part at n xs) xs
+moved-up at n us xs ys zs e f h = rw (e, f) (put-ahead at us (part at n xs) xs (omega arith))
+
+pub moved-down : (at k n : ℕ) (xs ys zs : List ℕ) → zs ≡ put (at + n) (zeros k) ys → ys ≡ put at (part (at + k) n xs) xs → at + k + n ≤ length xs
+    → zs ≡ put at (part (at + k) n xs ++ zeros k) xs
+moved-down at k n xs ys zs e f h =
+    let l = length-part (at + k) n xs h in
+    rw (e, f) (rw l at (put-next at (part (at + k) n xs) (zeros k) xs (omega (arith, length-replicate {A = ℕ} k 0))))
+
+-- ---- the same, on a and b with zeros behind them
+
+module _ (n : ℕ) (a v b : List ℕ) (fits : length a + length v + length b ≤ n) where
+  narrow : zeros (n - length (a ++ b)) ≡ zeros (length v) ++ zeros (n - length (a ++ v ++ b))
+  narrow =
+      let e : n - length (a ++ b) ≡ length v + (n - length (a ++ v ++ b)) = simp length-append (omega arith) in
+      rw (e, replicate-append-replicate {A = ℕ} (length v))
+
+  even : length (v ++ b) ≡ length (b ++ zeros (length v))
+  even = simp (length-append, length-replicate) (omega arith)
+
+  pub put-in : put (length a) (v ++ part (length a) (length b) (filled n (a ++ b))) (filled n (a ++ b)) ≡ filled n (a ++ v ++ b)
+  put-in =
+      let c = zeros (n - length (a ++ v ++ b)) in
+      let e : a ++ b ++ (zeros (length v) ++ c) ≡ a ++ (b ++ zeros (length v)) ++ c = simp append-assoc in
+      rw (part-seam a b (zeros (n - length (a ++ b))), narrow, e, put-seam a (b ++ zeros (length v)) c (v ++ b) even) (simp append-assoc)
+
+  pub take-out :
+      let f = filled n (a ++ v ++ b) in
+      put (length a) (part (length a + length v) (length b) f ++ zeros (length v)) f ≡ filled n (a ++ b)
+  take-out =
+      let c = zeros (n - length (a ++ v ++ b)) in
+      let e : a ++ v ++ b ++ c ≡ a ++ (v ++ b) ++ c = simp append-assoc in
+      let p = rw (length-append a v) at (part-seam (a ++ v) b c) in
+      rw (p, e, put-seam a (v ++ b) c (b ++ zeros (length v)) (sym even), narrow) (simp append-assoc)

@@ -1,12 +1,20 @@
 -- What is known of tests that hold or fail, and of tables of them: where all hold, or none. Assumes nothing.
-use mathlib.Core.Path.{_≡_, refl, sym}
-use mathlib.Core.Bool.{Bool, true, false, cond, not, _&&_, _||_}
+use mathlib.Core.Path.{_≡_, refl, sym, ap, _∙_}
+use mathlib.Core.Bool.{Bool, true, false, cond, not, _&&_, _||_, and-true, and-assoc}
 use mathlib.Core.List.{List, [], _∷_}
 use Prim.Native.Nat.{ℕ, _<_}
 use native.Mathlib.Omega.{arith}
-use lib.Dec.{T, eqb, ltb}
-use borrow.Author.Tests.{ltb-true}
+use lib.Dec.{T, eqb, ltb, ltb→lt}
 use Rattle.octets.specs.Tests.{and, all, Row, firstOf}
+
+-- a test holds or fails: the split that keeps the equation
+pub data Known (b : Bool) : Type 0 where
+  holds : b ≡ true → Known b
+  fails : b ≡ false → Known b
+
+pub known : (b : Bool) → Known b
+known true = holds refl
+known false = fails refl
 
 pub refuted : (b : Bool) → (b ≡ true → ⊥) → b ≡ false
 refuted true h = absurd (h refl)
@@ -29,33 +37,26 @@ abbrev pub All : List Bool → Type 0
 All [] = Unit {0}
 All (b ∷ bs) = (b ≡ true) × All bs
 
-and-true : (b : Bool) (bs : List Bool) → and b bs ≡ true → (b ≡ true) × All bs
-and-true b [] e = (e, tt)
-and-true b (c ∷ bs) e =
-    let r = and-true (b && c) bs e in
-    let p = both b c (r .0) in
-    (p .0, (p .1, r .1))
+pub and-all : (b : Bool) (bs : List Bool) → and b bs ≡ (b && all bs)
+and-all b [] = sym (and-true b)
+and-all b (c ∷ bs) = and-all (b && c) bs ∙ and-assoc b c (all bs) ∙ ap (_&&_ b) (sym (and-all c bs))
 
 pub all-true : (bs : List Bool) → all bs ≡ true → All bs
 all-true [] e = tt
-all-true (b ∷ bs) e = and-true b bs e
-
-true-and : (b : Bool) (bs : List Bool) → b ≡ true → All bs → and b bs ≡ true
-true-and b [] e a = e
-true-and b (c ∷ bs) e a = true-and (b && c) bs (rw (e, a .0)) (a .1)
+all-true (b ∷ bs) e =
+    let p = both b (all bs) (rw and-all at e) in
+    (p .0, all-true bs (p .1))
 
 pub true-all : (bs : List Bool) → All bs → all bs ≡ true
 true-all [] a = refl
-true-all (b ∷ bs) a = true-and b bs (a .0) (a .1)
+true-all (b ∷ bs) a = rw (and-all b bs, a .0) (true-all bs (a .1))
 
 -- a test that fails decides, and one that holds leaves it to those behind it
 pub and-fails : (b : Bool) (bs : List Bool) → b ≡ false → false ≡ and b bs
-and-fails b [] e = sym e
-and-fails b (c ∷ bs) e = and-fails (b && c) bs (rw e)
+and-fails b bs e = rw (and-all b bs, e)
 
 pub and-holds : (b : Bool) (bs : List Bool) → b ≡ true → all bs ≡ and b bs
-and-holds b [] e = sym e
-and-holds b (c ∷ bs) e = rw e
+and-holds b bs e = rw (and-all b bs, e)
 
 -- ---- none holds
 
@@ -96,9 +97,4 @@ pub first-below : (m : ℕ) (rs : List Row) → 0 < m → T (each (λ n. ltb n m
 first-below m [] h t = h
 first-below m (r ∷ rs) h t =
     let u = T-both (ltb (r .number) m) (each (λ n. ltb n m) rs) t in
-    go (r .when) (first-below m rs h (u .1)) (ltb (r .number) m) refl (u .0)
-  where
-    go : (b : Bool) → firstOf rs < m → (x : Bool) → ltb (r .number) m ≡ x → T x → cond b (r .number) (firstOf rs) < m
-    go false i x e t = i
-    go true i true e t = ltb-true (r .number) m e
-    go true i false e t = absurd t
+    elim (known (r .when)) [ holds e ↦ rw e (ltb→lt (r .number) m (u .0)) | fails e ↦ rw e (first-below m rs h (u .1)) ]

@@ -1,17 +1,19 @@
--- The laws of `allZero`, `same` and `filled`. Assumes nothing.
-use mathlib.Core.Path.{_≡_, refl, sym, _∙_}
+-- The laws of `allZero`, `same` and `filled`: what has zeros behind its first bytes is those bytes, filled. Assumes nothing.
+use mathlib.Core.Path.{_≡_, refl, sym, ap, _∙_, ap₂}
 use mathlib.Core.Bool.{Bool, true, _&&_, and-assoc}
 use mathlib.Core.List.{List, [], _∷_, _++_}
-use Prim.Native.Nat.{suc, zero, ℕ, _-_, _≤_}
+use Prim.Native.Nat.{ℕ, zero, suc, _+_, _-_, _≤_}
 use native.Mathlib.Nat.{sub-zero, zero-sub, suc-sub-suc}
 use native.Mathlib.Omega.{arith}
 use lib.Bits.{bitOr, or-zero-l, or-add-and, and-le-r}
 use lib.Dec.{eqb}
-use lib.ListN.{length, drop, length-append, length-replicate}
+use lib.ListN.{length, drop, length-append, length-drop, length-replicate, getD-replicate, take-append-drop}
+use lib.Seq.{take-take}
 use borrow.Author.Tests.{eqb-true, eq-eqb, ne-eqb}
-use Rattle.octets.specs.Octets.{put, zeros, filled, allZero, same}
+use Rattle.octets.specs.Octets.{part, put, zeros, filled, allZero, same}
 use Rattle.octets.proofs.TestLaws.{both}
-use Rattle.octets.proofs.PartLaws.{put-front}
+use Rattle.octets.proofs.PartLaws.{put-front, length-part}
+use Rattle.octets.proofs.NumberLaws.{Bytes}
 
 pub zeros-all : (n : ℕ) → allZero (zeros n) ≡ true
 zeros-all zero = refl
@@ -59,3 +61,20 @@ drop-zeros (suc n) (suc k) = rw suc-sub-suc (drop-zeros n k)
 -- what is put at the front of zeros has zeros behind it
 pub put-zeros : (n : ℕ) (xs : List ℕ) → put 0 xs (zeros n) ≡ filled n xs
 put-zeros n xs = put-front xs (zeros n) ∙ rw drop-zeros
+
+-- zeros behind the first n of a part's bytes
+pub part-filled : (at n m : ℕ) (xs : List ℕ) → at + m ≤ length xs → n ≤ m → allZero (drop n (part at m xs)) ≡ true
+    → part at m xs ≡ filled m (part at n xs)
+unfolding part
+part-filled at n m xs h l z =
+    let c : length (drop n (part at m xs)) ≡ m - length (part at n xs) =
+    rw length-drop (omega (arith, length-part at m xs h, length-part at n xs (omega arith))) in
+    sym (take-append-drop n (part at m xs)) ∙ ap₂ _++_ (take-take n m (drop at xs) l) (all-zeros _ z ∙ ap zeros c)
+
+bytes-zeros : (xs : List ℕ) (n : ℕ) → Bytes xs → Bytes (xs ++ zeros n)
+bytes-zeros [] n b i h = rw (getD-replicate {A = ℕ} n i 0 0 (rw length-replicate at h)) (omega arith)
+bytes-zeros (x ∷ xs) n b zero h = b 0 (omega arith)
+bytes-zeros (x ∷ xs) n b (suc i) h = bytes-zeros xs n (λ j l. b (suc j) (omega arith)) i (omega arith)
+
+pub bytes-filled : (n : ℕ) (xs : List ℕ) → Bytes xs → Bytes (filled n xs)
+bytes-filled n xs b = bytes-zeros xs (n - length xs) b

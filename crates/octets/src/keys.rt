@@ -1,9 +1,9 @@
 // The order of keys: of parts of slices, and of keys that stand in sixteen bytes with their length beside them.
-use crate::runs::copy_at;
+use crate::runs::copy;
 use crate::wide::read_big;
 ghost use mathlib.Core.Path.{_≡_};
 ghost use Prim.Native.Nat.{_+_, _≤_};
-ghost use lib.ListN.{length, take};
+ghost use lib.ListN.{length};
 ghost use Rattle.octets.specs.Octets.{part, filled};
 ghost use Rattle.octets.specs.Keys.{order, isLess, isEqual, wideOf, orderWide, clearWide};
 
@@ -74,23 +74,26 @@ pub fn equal(a: Wide, b: Wide) -> bool
     (a.high == b.high) & (a.low == b.low) & (a.len == b.len)
 }
 
-// "Key bytes past the key length are not looked at": with zeros in their place, equal keys have equal numbers.
-pub fn pad(key: [u8; 16], len: usize) -> [u8; 16]
-    requires { ⌜ len ≤ 16 ⌝ }
-    ensures { λ r. ⌜ r ≡ filled 16 (take len key) ⌝ }
+// Equal keys in such sixteen bytes have equal numbers.
+pub fn pad(key: &[u8]) -> [u8; 16]
+    requires { ⌜ length (now key) ≤ 16 ⌝ }
+    ensures { λ r. ⌜ r ≡ filled 16 (now (key .entry)) ⌝ }
 {
     let mut padded = [0u8; 16];
-    copy_at(&key[..len], &mut padded, 0);
+    copy(key, &mut padded);
     padded
 }
 
 // Whether zeros stand behind the key, by the numbers that are in hand, so that no byte is read again: the key's own bytes are
-// shifted out.
+// shifted out. Where the low number is zero, as for a key of eight bytes, the shift is spared.
 pub fn is_clear(w: Wide) -> bool
     ensures { λ r. ⌜ r ≡ clearWide w ⌝ }
 {
     if w.len < 8 {
         return (w.low == 0) & (w.high << (8 * w.len) == 0);
+    }
+    if w.low == 0 {
+        return true;
     }
     if w.len < 16 {
         return w.low << (8 * (w.len - 8)) == 0;

@@ -1,4 +1,6 @@
 // Runs of bytes: copied, moved within a slice, cleared, tested for zero.
+use crate::words::read32;
+use crate::words::write32;
 ghost use mathlib.Core.Path.{_≡_};
 ghost use Prim.Native.Nat.{_+_, _≤_};
 ghost use lib.ListN.{length, replicate};
@@ -58,7 +60,7 @@ pub fn clear(s: &mut [u8], at: usize, n: usize)
 }
 
 // No early exit, so that the loop reads many bytes at a time.
-pub fn all_zero(s: &[u8]) -> bool
+fn zero_run(s: &[u8]) -> bool
     ensures { λ r. ⌜ r ≡ allZero (now (s .entry)) ⌝ }
 {
     let mut seen: u8 = 0;
@@ -68,4 +70,18 @@ pub fn all_zero(s: &[u8]) -> bool
         i += 1;
     }
     seen == 0
+}
+
+// In blocks whose length the compiler knows: it writes their loop out, with no test in between.
+pub fn all_zero(s: &[u8]) -> bool
+    ensures { λ r. ⌜ r ≡ allZero (now (s .entry)) ⌝ }
+{
+    let mut i = 0;
+    while 1024 <= s.len() - i {
+        if !zero_run(&s[i..i + 1024]) {
+            return false;
+        }
+        i += 1024;
+    }
+    zero_run(&s[i..])
 }

@@ -2,7 +2,7 @@
 // bytes, so that reading a slice asks for its indices alone.
 ghost use mathlib.Core.Path.{_≡_};
 ghost use mathlib.Core.List.{[], _∷_};
-ghost use Prim.Native.Nat.{_+_, _*_, _≤_, _<_};
+ghost use Prim.Native.Nat.{min, _+_, _*_, _≤_, _<_};
 ghost use lib.ListN.{length};
 ghost use Rattle.octets.specs.Octets.{part, put, number, bytes};
 
@@ -56,4 +56,13 @@ pub fn write32(s: &mut [u8], at: usize, n: u32)
     s[at + 1] = (n / 256 % 256) as u8;
     s[at + 2] = (n / 256 / 256 % 256) as u8;
     s[at + 3] = (n / 256 / 256 / 256 % 256) as u8;
+}
+
+pub fn smaller(a: u32, b: u32) -> u32
+    ensures { λ r. ⌜ r ≡ min a b ⌝ }
+{
+    if a < b {
+        return a;
+    }
+    b
 }

@@ -3,15 +3,32 @@ use mathlib.Core.Path.{_≡_, refl}
 use mathlib.Core.List.{List, [], _∷_, _++_}
 use Prim.Native.Nat.{ℕ}
 use lib.ListN.{length, replicate}
-use Rattle.octets.specs.Octets.{zeros, filled}
+use Rattle.octets.specs.Octets.{part, put, number, zeros, filled}
 use Rattle.octets.specs.Keys.{Key}
-use Rattle.wire.specs.Entry.{writeCommand}
-use Rattle.store.specs.Space.{formatSteps}
-use Rattle.module.specs.Formatting.{memory, format}
-use Rattle.module.specs.Command.{post}
-use Rattle.module.specs.History.{Call, formatting, commanding}
+use Rattle.wire.specs.Entry.{readCommand, writeCommand}
+use Rattle.wire.specs.Completion.{readCompletion, writeCompletion}
+use Rattle.wire.specs.Page.{pageEntry, page, entrySteps, firstEntry, readPage}
+use Rattle.store.specs.Namespace.{within}
+use Rattle.store.specs.Records.{recordOf, recordsPart, valuesPart}
+use Rattle.memory.specs.Memory.{formatSteps, halfOf, labelIn, directoryOf, valuesOf, namespaceOf, legal, memory}
+use Rattle.commands.specs.Steps.{steps, statusOf}
+use Rattle.commands.specs.Answer.{answer}
+use Rattle.commands.specs.Formatting.{format}
+use Rattle.commands.specs.Command.{post, respond, serve, command}
+use Rattle.commands.specs.History.{Call, formatting, commanding}
 use Rattle.promises.specs.Histories.{Start, begun}
-use Rattle.promises.specs.Requests.{Request, call}
+use Rattle.promises.specs.Requests.{Request, call, refusal}
+
+-- to unfold the one or the other is to unfold all that an instance computes with: what is answered on a map, with its page or
+-- without; and memory besides
+unfoldable pub onMap : Unit {0}
+unfolding readCommand writeCommand part put number pageEntry page entrySteps firstEntry readPage answer statusOf steps
+onMap = tt
+
+unfoldable pub onMemory : Unit {0}
+unfolding onMap format formatSteps readCompletion writeCompletion within recordOf recordsPart valuesPart halfOf labelIn directoryOf
+    valuesOf namespaceOf legal respond serve command refusal
+onMemory = tt
 
 -- format 15, id 1, size 64, on bytes that are all b, one more in each slice than is needed
 abbrev pub start : ℕ → Start

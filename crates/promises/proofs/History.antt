@@ -5,39 +5,33 @@ use mathlib.Core.Bool.{true, false, not}
 use mathlib.Core.List.{List, [], _∷_, _++_}
 use lib.Dec.{eqb}
 use borrow.Author.Tests.{not-true}
-use Rattle.octets.specs.Octets.{part, put, number}
 use Rattle.octets.proofs.TestLaws.{both}
-use Rattle.wire.specs.Entry.{readCommand, writeCommand}
-use Rattle.wire.specs.Completion.{readCompletion, writeCompletion}
-use Rattle.store.specs.Formats.{needed}
+use Rattle.memory.specs.Memory.{needed, directoryOf, valuesOf, Memory}
 use Rattle.store.specs.Maps.{pair}
-use Rattle.store.specs.Space.{Space, fresh, formatSteps, within}
-use Rattle.store.specs.Image.{headOf, recordOf, recordsPart, valuesPart, directoryOf, valuesOf, spaceOf, legal}
+use Rattle.store.specs.Namespace.{Namespace, fresh}
 use Rattle.store.proofs.MapLaws.{map-ext}
-use Rattle.store.proofs.SpaceLaws.{true-within}
-use Rattle.module.specs.Steps.{steps, statusOf}
-use Rattle.module.specs.Answer.{answer}
-use Rattle.module.specs.Formatting.{Memory, format}
-use Rattle.module.specs.Command.{respond, serve, command}
-use Rattle.module.specs.History.{Call, formatting, commanding, run, leaves, told, stored}
-use Rattle.module.proofs.CommandLaws.{Holds, Kept, format-holds, format-refused}
-use Rattle.module.proofs.HistoryLaws.{told-call, command-kept, format-kept}
+use Rattle.store.proofs.NamespaceLaws.{true-within}
+use Rattle.commands.specs.Formatting.{format}
+use Rattle.commands.specs.History.{Call, formatting, commanding, run, leaves, told, stored}
+use Rattle.memory.proofs.ImageLaws.{Holds}
+use Rattle.commands.proofs.CommandLaws.{Kept, format-holds, format-refused}
+use Rattle.commands.proofs.HistoryLaws.{told-call, command-kept, format-kept}
 use Rattle.promises.specs.Histories.{Start, begun, memoryAfter, storedAfter, Shows, SamePast, SameNeeded, SamePairs, never, formats}
 use Rattle.promises.specs.Requests.{call}
 use Rattle.promises.proofs.RequestLaws.{holds-after}
-use Rattle.promises.proofs.Examples.{start, start-begun, A, B, store, vain}
+use Rattle.promises.proofs.Examples.{onMemory, start, start-begun, A, B, store, vain}
 
 -- ---- the image of what is stored
 
 pub history : (a : Start) (xs : List Call) → begun a .number ≡ 0 → Shows (storedAfter a xs) (memoryAfter a xs)
 history a xs ok =
     let h = holds-after a xs ok in
-    record { within = true-within (storedAfter a xs) (h .within); directory = h .image .directory; values = h .image .values }
+    record { within = true-within (storedAfter a xs) (h .within); directory = h .directory; values = h .values }
 
 -- ---- bytes past the needed part
 
 -- a call that does not format leaves them and the formatting
-stays : (s : Space) (m : Memory) (x : Call) → Holds s m → not (formats x (run m x)) ≡ true
+stays : (s : Namespace) (m : Memory) (x : Call) → Holds s m → not (formats x (run m x)) ≡ true
     → Kept (s .index) (s .size) m (run m x .after .memory) × (told s x (run m x) .index ≡ s .index) × (told s x (run m x) .size ≡ s .size)
 unfolding format
 stays s m (commanding p e c b) h n = (command-kept s m p e c b h, refl, refl)
@@ -45,16 +39,13 @@ stays s m (formatting i id n) h q =
     let e : eqb (format i id n m .number) 0 ≡ false = not-true _ q in
     rw (format-refused i id n m e, e) (record { directory = refl; values = refl }, refl, refl)
 
-stay : (s : Space) (m : Memory) (xs : List Call) → Holds s m → never formats m xs ≡ true → Kept (s .index) (s .size) m (leaves m xs)
+stay : (s : Namespace) (m : Memory) (xs : List Call) → Holds s m → never formats m xs ≡ true → Kept (s .index) (s .size) m (leaves m xs)
 stay s m [] h n = record { directory = refl; values = refl }
 stay s m (x ∷ xs) h n =
     let b = both _ _ n in
     let k = stays s m x h (b .0) in
     let r = stay (told s x (run m x)) (run m x .after .memory) xs (told-call s m x h) (b .1) in
-    record {
-      directory = rw (k .1) at (r .directory) ∙ k .0 .directory;
-      values = rw (k .2) at (r .values) ∙ k .0 .values;
-    }
+    record { directory = rw (k .1) at (r .directory) ∙ k .0 .directory; values = rw (k .2) at (r .values) ∙ k .0 .values }
 
 pub past-as-lent : (a : Start) (xs : List Call) → begun a .number ≡ 0 → never formats (begun a .after) xs ≡ true
     → SamePast (a .index) (a .size) (a .lent) (memoryAfter a xs)
@@ -65,19 +56,14 @@ past-as-lent a xs ok n =
 
 -- ---- the same bytes
 
-space-ext : (s t : Space) → SamePairs s t → s .pairs ≡ t .pairs → s ≡ t
-space-ext s t e p = λ i. record { index = e .index i; id = e .id i; size = e .size i; pairs = p i }
-
 pub same-bytes : (a b : Start) (xs ys : List Call) → begun a .number ≡ 0 → begun b .number ≡ 0 → SamePairs (storedAfter a xs) (storedAfter b ys)
     → SameNeeded (storedAfter a xs .index) (storedAfter a xs .size) (memoryAfter a xs) (memoryAfter b ys)
 same-bytes a b xs ys okA okB e =
     let h = holds-after a xs okA in
     let g = holds-after b ys okB in
-    let same = space-ext (storedAfter a xs) (storedAfter b ys) e (map-ext _ _ (h .within .rising) (g .within .rising) (e .pairs)) in
-    record {
-      directory = h .image .directory ∙ ap directoryOf same ∙ sym (rw same (g .image .directory));
-      values = h .image .values ∙ ap valuesOf same ∙ sym (rw same (g .image .values));
-    }
+    let p = map-ext _ _ (h .within .rising) (g .within .rising) (e .pairs) in
+    let same : storedAfter a xs ≡ storedAfter b ys = λ i. record { index = e .index i; id = e .id i; size = e .size i; pairs = p i } in
+    record { directory = h .directory ∙ ap directoryOf same ∙ sym (rw same (g .directory)); values = h .values ∙ ap valuesOf same ∙ sym (rw same (g .values)) }
 
 -- ---- instances: on bytes that were all 7 or all 9
 
@@ -93,7 +79,7 @@ turned = kept ++ call (store B (7 ∷ [])) ∷ []
 met : (storedAfter (start 7) anew .pairs ≡ pair A (5 ∷ 6 ∷ []) ∷ pair B (7 ∷ []) ∷ [])
     × (never formats (begun (start 7) .after) kept ≡ true)
     × SamePairs (storedAfter (start 7) anew) (storedAfter (start 9) turned)
-unfolding format formatSteps readCommand writeCommand part put number answer statusOf steps readCompletion writeCompletion within headOf recordOf recordsPart valuesPart directoryOf valuesOf spaceOf legal respond serve command
+unfolding onMemory
 met = (refl, refl, record { index = refl; id = refl; size = refl; pairs = λ k. refl })
 
 shows : Shows (storedAfter (start 7) anew) (memoryAfter (start 7) anew)

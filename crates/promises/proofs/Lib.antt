@@ -4,12 +4,7 @@ pub mod Walk
 pub mod Retrieve
 pub mod Agreement
 pub mod Unique
-pub mod UniqueBytes
-pub mod UniqueStore
-pub mod UniqueWritten
 pub mod StandIns
-pub mod Members
 mod RequestLaws
 mod ShownLaws
-mod RunLaws
 mod Examples

@@ -10,14 +10,15 @@ use Rattle.octets.specs.Tests.{Row, firstOf}
 use Rattle.octets.proofs.TestLaws.{None, none-holds}
 use Rattle.wire.specs.Entry.{notEntry}
 use Rattle.wire.specs.Completion.{notCompletion}
-use Rattle.store.specs.Space.{Space, fresh}
-use Rattle.module.specs.Steps.{viewOf, steps, statusOf}
-use Rattle.module.specs.Answer.{Answer, answer}
-use Rattle.module.specs.Formatting.{Memory}
-use Rattle.module.proofs.AnswerLaws.{answer-status}
-use Rattle.module.proofs.CommandLaws.{Holds, format-holds}
-use Rattle.module.proofs.HistoryLaws.{told-calls, call-number, call-status, call-dword0, call-buffer}
-use Rattle.module.specs.History.{Call}
+use Rattle.store.specs.Namespace.{Namespace, fresh}
+use Rattle.commands.specs.Steps.{viewOf, steps, statusOf}
+use Rattle.commands.specs.Answer.{Answer, answer}
+use Rattle.memory.specs.Memory.{Memory}
+use Rattle.commands.proofs.AnswerLaws.{answer-status}
+use Rattle.memory.proofs.ImageLaws.{Holds}
+use Rattle.commands.proofs.CommandLaws.{format-holds}
+use Rattle.commands.proofs.HistoryLaws.{told-calls, call-number, call-status, call-dword0, call-buffer}
+use Rattle.commands.specs.History.{Call}
 use Rattle.promises.specs.Histories.{Start, begun, memoryAfter, storedAfter}
 use Rattle.promises.specs.Requests.{Request, sends, asked, rowsToH, refusal, Gives}
 
@@ -31,7 +32,7 @@ none-first : (rs qs : List Row) → None rs → firstOf (rs ++ qs) ≡ firstOf q
 none-first [] qs n = refl
 none-first (r ∷ rs) qs n = rw (n .0) (none-first rs qs (n .1))
 
-module _ (s : Space) (x : Request) (e : refusal s x ≡ 0) where
+module _ (s : Namespace) (x : Request) (e : refusal s x ≡ 0) where
   abbrev rows : List Row
   rows = steps (viewOf true s (asked x) (length (x .buffer))) (asked x)
 
@@ -51,7 +52,7 @@ module _ (s : Space) (x : Request) (e : refusal s x ≡ 0) where
 
 -- ---- what it is answered on memory that holds s
 
-module _ (s : Space) (m : Memory) (x : Request) (h : Holds s m) (e : refusal s x ≡ 0) where
+module _ (s : Namespace) (m : Memory) (x : Request) (h : Holds s m) (e : refusal s x ≡ 0) where
   pub gives : (a : Answer) → answer true s (asked x) (x .buffer) ≡ a → a .dword0 < 256 ^ 4 → Gives (a .status) (a .dword0) (a .buffer) (sends m x)
   gives a is small =
       let e64 = entry-64 s x e in

@@ -4,64 +4,53 @@ use mathlib.Core.Path.{_≡_, refl, sym, ap, _∙_}
 use mathlib.Core.Bool.{Bool, true, false, cond, not, _&&_, _||_, and-false}
 use mathlib.Core.List.{List, [], _∷_, _++_}
 use mathlib.Core.Option.{none, some}
-use Prim.Native.Nat.{ℕ, _≤_}
+use Prim.Native.Nat.{ℕ}
 use native.Mathlib.Omega.{arith}
 use lib.Dec.{eqb}
 use lib.ListN.{length, take, replicate}
 use borrow.Author.Tests.{not-true}
-use Rattle.octets.specs.declared.keys.Order.{Order}
-use Rattle.octets.specs.declared.keys.Order.the-variants.{Less, Equal, Greater}
-use Rattle.octets.specs.Octets.{part, put, number, same}
-use Rattle.octets.specs.Keys.{Key, order}
-use Rattle.octets.proofs.TestLaws.{both}
+use Rattle.octets.specs.Octets.{put, same}
+use Rattle.octets.specs.Keys.{Key}
+use Rattle.octets.proofs.TestLaws.{both, contrary}
 use Rattle.octets.proofs.OrderLaws.{Rising}
-use Rattle.wire.specs.declared.entries.Command.{Command}
-use Rattle.wire.specs.Entry.{readCommand, writeCommand, keyOf, isStore, isRetrieve, isDelete, isExist}
-use Rattle.wire.specs.Completion.{readCompletion, writeCompletion}
-use Rattle.store.specs.Formats.{formatOf}
-use Rattle.store.specs.Maps.{Pair, keys, lookup}
-use Rattle.store.specs.Space.{Space, fresh, formatSteps, within}
-use Rattle.store.specs.Image.{headOf, recordOf, recordsPart, valuesPart, directoryOf, valuesOf, spaceOf, legal}
-use Rattle.octets.proofs.TestLaws.{contrary}
+use Rattle.wire.specs.Entry.{readCommand, keyOf, isStore, isRetrieve, isDelete, isExist}
+use Rattle.store.specs.Maps.{Pair, keys, lookup, insert, erase}
+use Rattle.store.specs.Namespace.{Namespace, fresh}
+use Rattle.memory.specs.Memory.{Memory}
 use Rattle.octets.proofs.ZeroLaws.{true-same}
 use Rattle.store.proofs.MapLaws.{lookup-insert, lookup-insert-other, lookup-erase, lookup-erase-other}
-use Rattle.store.proofs.SpaceLaws.{Admitted, format-bounds}
-use Rattle.module.specs.Steps.{steps, statusOf}
-use Rattle.module.specs.Answer.{answer, pairsAfter}
-use Rattle.module.specs.Formatting.{Memory, format}
-use Rattle.module.specs.Command.{respond, serve, command}
-use Rattle.module.specs.History.{Call, formatting, commanding, run, leaves, succeeded, told, stored}
-use Rattle.module.proofs.AnswerLaws.{refused}
-use Rattle.module.proofs.CommandLaws.{Holds}
-use Rattle.module.proofs.HistoryLaws.{told-call}
+use Rattle.commands.specs.Steps.{steps, statusOf}
+use Rattle.commands.specs.Answer.{answer, pairsAfter}
+use Rattle.commands.specs.History.{Call, formatting, commanding, run, leaves, succeeded, told, stored}
+use Rattle.commands.proofs.AnswerLaws.{refused}
+use Rattle.memory.proofs.ImageLaws.{Holds}
+use Rattle.commands.proofs.HistoryLaws.{told-call}
 use Rattle.promises.specs.Histories.{Start, begun, memoryAfter, storedAfter, never, touches}
-use Rattle.promises.specs.Requests.{Request, call, sends, asked, refusal, Proper, Gives}
+use Rattle.promises.specs.Requests.{Request, call, sends, asked, Proper, Gives}
 use Rattle.promises.specs.Retrieves.{valueIn, Since}
 use Rattle.promises.proofs.RequestLaws.{holds-after, later-steps, gives}
-use Rattle.promises.proofs.Examples.{start, request, A, B, store, exist, vain}
+use Rattle.promises.proofs.ShownLaws.{value-small}
+use Rattle.promises.proofs.Examples.{onMap, onMemory, start, request, A, B, store, exist, vain}
 
 -- ---- calls that leave a key alone
 
-spared-pairs : (z : Bool) (k : Key) (c : Command) (b : List ℕ) (m : List Pair) → Rising (keys m)
-    → (z && (isStore (c .opcode) || isDelete (c .opcode)) && same (keyOf c) k) ≡ false → lookup k (cond z (pairsAfter c b m) m) ≡ lookup k m
-spared-pairs false k c b m r e = refl
-spared-pairs true k c b m r e = go (isStore (c .opcode)) refl (isDelete (c .opcode)) refl
-  where
-    other : same (keyOf c) k ≡ false → ¬ (k ≡ keyOf c)
-    other f q = contrary (sym f ∙ true-same (keyOf c) k (sym q))
+-- z: the call succeeds; x and y: it is a Store, a Delete; w: its key j is k
+spared-pairs : (z x y w : Bool) (k j : Key) (v : List ℕ) (m : List Pair) → Rising (keys m) → (w ≡ false → ¬ (k ≡ j)) → (z && (x || y) && w) ≡ false
+    → lookup k (cond z (cond x (insert j v m) (cond y (erase j m) m)) m) ≡ lookup k m
+spared-pairs false x y w k j v m r o e = refl
+spared-pairs true true y w k j v m r o e = lookup-insert-other k j v m (o e)
+spared-pairs true false true w k j v m r o e = lookup-erase-other k j m r (o e)
+spared-pairs true false false w k j v m r o e = refl
 
-    go : (x : Bool) → isStore (c .opcode) ≡ x → (y : Bool) → isDelete (c .opcode) ≡ y → lookup k (pairsAfter c b m) ≡ lookup k m
-    go true f y g = rw f (lookup-insert-other k (keyOf c) (take (c .amount) b) m (other (rw f at e)))
-    go false f true g = rw (f, g) (lookup-erase-other k (keyOf c) m r (other (rw (f, g) at e)))
-    go false f false g = rw (f, g)
-
-spared-told : (k : Key) (s : Space) (m : Memory) (x : Call) → Holds s m → not (touches k x (run m x)) ≡ true
+spared-told : (k : Key) (s : Namespace) (m : Memory) (x : Call) → Holds s m → not (touches k x (run m x)) ≡ true
     → lookup k (told s x (run m x) .pairs) ≡ lookup k (s .pairs)
 spared-told k s m (formatting i id n) h q = rw (not-true (eqb (run m (formatting i id n) .number) 0) q)
 spared-told k s m (commanding p e c b) h q =
-    spared-pairs (succeeded (run m (commanding p e c b))) k (readCommand e) b (s .pairs) (h .within .rising) (not-true _ q)
+    let d = readCommand e in
+    spared-pairs (succeeded (run m (commanding p e c b))) (isStore (d .opcode)) (isDelete (d .opcode)) (same (keyOf d) k) k (keyOf d) _ (s .pairs)
+    (h .within .rising) (λ f g. contrary (sym f ∙ true-same (keyOf d) k (sym g))) (not-true _ q)
 
-spared : (k : Key) (s : Space) (m : Memory) (xs : List Call) → Holds s m → never (touches k) m xs ≡ true
+spared : (k : Key) (s : Namespace) (m : Memory) (xs : List Call) → Holds s m → never (touches k) m xs ≡ true
     → lookup k (stored s m xs .pairs) ≡ lookup k (s .pairs)
 spared k s m [] h n = refl
 spared k s m (x ∷ xs) h n =
@@ -70,7 +59,7 @@ spared k s m (x ∷ xs) h n =
 
 -- ---- what is held under the key of a Store or Delete that succeeded
 
-stored-more : (s : Space) (m : Memory) (xs ys : List Call) → stored s m (xs ++ ys) ≡ stored (stored s m xs) (leaves m xs) ys
+stored-more : (s : Namespace) (m : Memory) (xs ys : List Call) → stored s m (xs ++ ys) ≡ stored (stored s m xs) (leaves m xs) ys
 stored-more s m [] ys = refl
 stored-more s m (x ∷ xs) ys = stored-more (told s x (run m x)) (run m x .after .memory) xs ys
 
@@ -79,8 +68,8 @@ module _ (a : Start) (xs : List Call) (x : Request) (ys : List Call) (op : ℕ) 
   held =
       let s = storedAfter a xs in
       let m = memoryAfter a xs in
-      let t : Space = told s (call x) (sends m x) in
-      ap (λ (u : Space). lookup k (u .pairs)) (stored-more (fresh (a .index) (a .id) (a .size)) (begun a .after) xs (call x ∷ ys))
+      let t : Namespace = told s (call x) (sends m x) in
+      ap (λ (u : Namespace). lookup k (u .pairs)) (stored-more (fresh (a .index) (a .id) (a .size)) (begun a .after) xs (call x ∷ ys))
       ∙ spared k t (sends m x .after .memory) ys (told-call s m (call x) (holds-after a xs (since .formatted))) (since .spared)
       ∙ rw (since .done)
 
@@ -92,16 +81,7 @@ module _ (a : Start) (xs : List Call) (x : Request) (ys : List Call) (op : ℕ) 
 
 -- ---- what is answered of a key
 
-value-small : (i : ℕ) (k : Key) (m : List Pair) (v : List ℕ) → Admitted i m → lookup k m ≡ some v → length v ≤ formatOf i .valuemax
-value-small i k [] v a e = absurd (let z : _≡_ {A = ℕ} 0 1 = cc in omega arith)
-value-small i k (p ∷ m) v a e = go (order k (p .key)) refl (value-small i k m v (a .3))
-  where
-    go : (o : Order) → order k (p .key) ≡ o → (lookup k m ≡ some v → length v ≤ formatOf i .valuemax) → length v ≤ formatOf i .valuemax
-    go Less f r = absurd (let z : _≡_ {A = ℕ} 0 1 = cc (rw f at e) in omega arith)
-    go Equal f r = let q : p .value ≡ v = cc (rw f at e) in rw (← q) (a .2)
-    go Greater f r = r (rw f at e)
-
-module _ (s : Space) (k : Key) (op : ℕ) (r : Request) (p : Proper s op k r) where
+module _ (s : Namespace) (k : Key) (op : ℕ) (r : Request) (p : Proper s op k r) where
   absent-status : (isRetrieve op || isDelete op || isExist op) ≡ true → lookup k (s .pairs) ≡ none → statusOf true s (asked r) (length (r .buffer)) ≡ 0x87
   unfolding steps
   absent-status o e = later-steps s r (p .passes) ∙ rw (p .opcode, o, p .key, e)
@@ -110,7 +90,7 @@ module _ (s : Space) (k : Key) (op : ℕ) (r : Request) (p : Proper s op k r) wh
   unfolding steps
   held-status o v e = later-steps s r (p .passes) ∙ rw (p .opcode, o, p .key, e, and-false)
 
-module _ (s : Space) (m : Memory) (h : Holds s m) (k : Key) (r : Request) where
+module _ (s : Namespace) (m : Memory) (h : Holds s m) (k : Key) (r : Request) where
   absent : (op : ℕ) → Proper s op k r → (isRetrieve op || isDelete op || isExist op) ≡ true → lookup k (s .pairs) ≡ none → Gives 0x87 0 (r .buffer) (sends m r)
   absent op p o e =
       let st = absent-status s k op r p o e in
@@ -119,8 +99,7 @@ module _ (s : Space) (m : Memory) (h : Holds s m) (k : Key) (r : Request) where
   retrieved : (v : List ℕ) → lookup k (s .pairs) ≡ some v → Proper s 0x02 k r → Gives 0x00 (length v) (put 0 (take (asked r .amount) v) (r .buffer)) (sends m r)
   unfolding answer
   retrieved v e p =
-      let small = value-small (s .index) k (s .pairs) v (h .within .admitted) e in
-      let bounds = format-bounds (s .index) (h .within .permits .index) in
+      let small = rw e at (value-small s (h .within) k) in
       gives s m r h (p .passes) (record { status = 0; dword0 = length v; buffer = put 0 (take (asked r .amount) v) (r .buffer); pairs = s .pairs })
       (rw (held-status s k 0x02 r p refl v e, p .opcode, p .key, e)) (omega arith)
 
@@ -162,15 +141,11 @@ retrieve = request 0x02 A 1 (1 ∷ 2 ∷ 3 ∷ [])
 after-store : Since (start 7) [] (store A (5 ∷ 6 ∷ [])) between 0x01 A
     × Proper (storedAfter (start 7) (call (store A (5 ∷ 6 ∷ [])) ∷ between)) 0x02 A retrieve
     × Proper (storedAfter (start 7) (call (store A (5 ∷ 6 ∷ [])) ∷ between)) 0x14 A (exist A)
-unfolding format formatSteps readCommand writeCommand part put number answer statusOf steps readCompletion writeCompletion within headOf recordOf recordsPart valuesPart directoryOf valuesOf spaceOf legal respond serve command refusal
-after-store = (
-  record { formatted = refl; opcode = refl; key = refl; done = refl; spared = refl },
-  record { opcode = refl; key = refl; passes = refl },
-  record { opcode = refl; key = refl; passes = refl },
-)
+unfolding onMemory
+after-store = (search refl, search refl, search refl)
 
 retrieves : Gives 0x00 2 (5 ∷ 2 ∷ 3 ∷ []) (sends (memoryAfter (start 7) (call (store A (5 ∷ 6 ∷ [])) ∷ between)) retrieve)
-unfolding readCommand writeCommand part put number
+unfolding onMap
 retrieves = retrieve-after-store (start 7) [] (store A (5 ∷ 6 ∷ [])) between A retrieve (after-store .0) (after-store .1)
 
 exists : Gives 0x00 0 [] (sends (memoryAfter (start 7) (call (store A (5 ∷ 6 ∷ [])) ∷ between)) (exist A))
@@ -178,11 +153,8 @@ exists = exist-after-store (start 7) [] (store A (5 ∷ 6 ∷ [])) between A (ex
 
 after-delete : Since (start 7) (call (store A []) ∷ []) delete between 0x10 A
     × Proper (storedAfter (start 7) (call (store A []) ∷ call delete ∷ between)) 0x02 A retrieve
-unfolding format formatSteps readCommand writeCommand part put number answer statusOf steps readCompletion writeCompletion within headOf recordOf recordsPart valuesPart directoryOf valuesOf spaceOf legal respond serve command refusal
-after-delete = (
-  record { formatted = refl; opcode = refl; key = refl; done = refl; spared = refl },
-  record { opcode = refl; key = refl; passes = refl },
-)
+unfolding onMemory
+after-delete = (search refl, search refl)
 
 misses : Gives 0x87 0 (1 ∷ 2 ∷ 3 ∷ []) (sends (memoryAfter (start 7) (call (store A []) ∷ call delete ∷ between)) retrieve)
 misses = absent-after-delete (start 7) (call (store A []) ∷ []) delete between A retrieve (after-delete .0) 0x02 refl (after-delete .1)

@@ -1,24 +1,24 @@
 -- A page shows a beginning of the keys from the given one on, and a host reads those keys back. Assumes nothing.
 use mathlib.Core.Path.{_≡_, refl, ap}
-use mathlib.Core.Bool.{Bool, true, false}
 use mathlib.Core.List.{List, [], _∷_, _++_}
-use Prim.Native.Nat.{ℕ, _+_, _-_, _^_, _≤_, _<_}
+use Prim.Native.Nat.{ℕ, _+_, _-_, _≤_}
 use native.Mathlib.Omega.{arith}
 use lib.Dec.{leb}
 use lib.ListN.{length, take, drop, length-append, length-drop, take-append-drop}
-use Rattle.store.proofs.SpaceLaws.{Admitted, Within, format-bounds}
-use Rattle.store.specs.Maps as Maps
-use Rattle.store.specs.Maps.{Pair}
-use Rattle.store.specs.Space.{Space}
+use Rattle.store.proofs.NamespaceLaws.{Admitted, Within, format-bounds}
+use Rattle.store.specs.Formats.{formatOf}
+use Rattle.store.specs.Maps.{Pair, keys as keysOf, valueOf}
+use Rattle.store.specs.Namespace.{Namespace}
 use Rattle.octets.specs.Octets.{put}
-use Rattle.octets.specs.Keys.{Key, from}
+use Rattle.octets.specs.declared.keys.Order.{Order}
+use Rattle.octets.specs.declared.keys.Order.the-variants.{Less, Equal, Greater}
+use Rattle.octets.specs.Keys.{Key, from, order}
+use Rattle.octets.proofs.TestLaws.{known, holds, fails}
 use Rattle.octets.proofs.OrderLaws.{Below, Rising, order-self, below-trans, below-greater}
-use Rattle.wire.specs.Page.{entrySize, page, fits, keys, readPage}
-use Rattle.wire.proofs.PageLaws.{Sized, page-back}
-use Rattle.wire.proofs.FitLaws.{fits-next}
+use Rattle.wire.specs.Page.{entrySize, page, fits, keys, readPage, shown}
+use Rattle.wire.proofs.PageLaws.{Sized, page-back, fits-next}
 use Rattle.store.specs.Finds.{rank}
 use Rattle.store.proofs.RankLaws.{from-rank, length-keys}
-use Rattle.module.specs.Answer.{shown}
 
 -- ---- keys that a page can hold, and parts of them
 
@@ -40,12 +40,9 @@ pageable-right (j ∷ js) ks g = pageable-right js ks (g .0 .1, g .1 .2)
 
 pub fits-begins : (r : ℕ) (ks : List Key) → (rest : List Key) × (fits r ks ++ rest ≡ ks)
 fits-begins r [] = ([], refl)
-fits-begins r (k ∷ ks) = go (leb (entrySize (length k)) r) refl (fits-begins (r - entrySize (length k)) ks)
-  where
-    go : (b : Bool) → leb (entrySize (length k)) r ≡ b → (rest : List Key) × (fits (r - entrySize (length k)) ks ++ rest ≡ ks)
-        → (rest : List Key) × (fits r (k ∷ ks) ++ rest ≡ k ∷ ks)
-    go true e i = (i .0, rw e (ap (λ (l : List Key). k ∷ l) (i .1)))
-    go false e i = (k ∷ ks, rw e)
+fits-begins r (k ∷ ks) =
+    let i = fits-begins (r - entrySize (length k)) ks in
+    elim (known (leb (entrySize (length k)) r)) [ holds e ↦ (i .0, rw e (ap (_∷_ k) (i .1))) | fails e ↦ (k ∷ ks, rw e) ]
 
 -- an entry has at most 20 bytes, so where there are 20 a page stops only at the end
 pub fits-none : (r : ℕ) (ks : List Key) → Sized ks → 20 ≤ r → fits r ks ≡ [] → ks ≡ []
@@ -67,29 +64,40 @@ from-stored (j ∷ js) k ks r = rw (below-greater j k (before j js r)) (from-sto
     before j [] r = r .0
     before j (i ∷ js) r = below-trans j i k (r .0) (before i js (r .1))
 
--- ---- what is read of a page put into a data buffer
+-- ---- a map within the limits
 
-pub shown-read : (n : ℕ) (k : Key) (ks : List Key) (b : List ℕ) → length ks < 256 ^ 4 → Pageable ks
-    → readPage (put 0 (page (shown n k ks)) b) ≡ keys (shown n k ks)
-unfolding put
-shown-read n k ks b few g =
-    let r = rank k ks in
-    let part = fits-begins (n - 4) (from k ks) in
-    let tail : Pageable (from k ks) = rw (from-rank k ks) (pageable-right (take r ks) (drop r ks) (rw (take-append-drop r ks) g)) in
-    let head = pageable-left (shown n k ks) (part .0) (rw (part .1) tail) in
-    let all : length (from k ks) ≤ length ks = rw (from-rank k ks, length-drop r ks) (omega arith) in
-    let many : length (shown n k ks) + length (part .0) ≡ length (from k ks) = simp length-append at (ap length (part .1)) in
-    page-back (shown n k ks) (drop (0 + length (page (shown n k ks))) b) (omega arith) (head .0) (head .1)
-
--- ---- the keys of a map within the limits
-
-admitted-sized : (i : ℕ) (m : List Pair) → i ≤ 15 → Admitted i m → Sized (Maps.keys m)
+admitted-sized : (i : ℕ) (m : List Pair) → i ≤ 15 → Admitted i m → Sized (keysOf m)
 admitted-sized i [] h a = tt
 admitted-sized i (p ∷ m) h a = (a .0, omega (arith, format-bounds i h .0), admitted-sized i m h (a .3))
 
--- what a map within the limits holds
-pub pageable : (s : Space) → Within s → Pageable (Maps.keys (s .pairs))
-pageable s w = (w .rising, admitted-sized (s .index) (s .pairs) (w .permits .index) (w .admitted))
+admitted-value : (i : ℕ) (k : Key) (m : List Pair) → Admitted i m → length (valueOf k m) ≤ formatOf i .valuemax
+admitted-value i k [] a = omega arith
+admitted-value i k (p ∷ m) a = go (order k (p .key)) refl (admitted-value i k m (a .3))
+  where
+    go : (o : Order) → order k (p .key) ≡ o → length (valueOf k m) ≤ formatOf i .valuemax → length (valueOf k (p ∷ m)) ≤ formatOf i .valuemax
+    go Less e r = rw e (omega arith)
+    go Equal e r = rw e (a .2)
+    go Greater e r = rw e r
 
-pub keys-few : (s : Space) → Within s → length (Maps.keys (s .pairs)) < 256 ^ 4
-keys-few s w = omega (arith, length-keys (s .pairs), w .count, format-bounds (s .index) (w .permits .index))
+module _ (s : Namespace) (w : Within s) where
+  abbrev ks : List Key
+  ks = keysOf (s .pairs)
+
+  pub pageable : Pageable ks
+  pageable = (w .rising, admitted-sized (s .index) (s .pairs) (w .permits .index) (w .admitted))
+
+  pub value-small : (k : Key) → length (valueOf k (s .pairs)) ≤ 4096
+  value-small k = omega (arith, admitted-value (s .index) k (s .pairs) (w .admitted), format-bounds (s .index) (w .permits .index))
+
+  -- what is read of a page put into a data buffer
+  pub shown-read : (n : ℕ) (k : Key) (b : List ℕ) → readPage (put 0 (page (shown n k ks)) b) ≡ keys (shown n k ks)
+  unfolding put
+  shown-read n k b =
+      let r = rank k ks in
+      let part = fits-begins (n - 4) (from k ks) in
+      let tail : Pageable (from k ks) = rw (from-rank k ks) (pageable-right (take r ks) (drop r ks) (rw (take-append-drop r ks) pageable)) in
+      let head = pageable-left (shown n k ks) (part .0) (rw (part .1) tail) in
+      let all : length (from k ks) ≤ length ks = rw (from-rank k ks, length-drop r ks) (omega arith) in
+      let many : length (shown n k ks) + length (part .0) ≡ length (from k ks) = simp length-append at (ap length (part .1)) in
+      let few = format-bounds (s .index) (w .permits .index) in
+      page-back (shown n k ks) (drop (0 + length (page (shown n k ks))) b) (omega (arith, length-keys (s .pairs), w .count)) (head .0) (head .1)

@@ -1,56 +1,281 @@
--- At most one outcome satisfies a contract: the law, and the functions that are exported to C. `UniqueBytes` and `UniqueStore` have
--- every other public function. Assumes nothing.
-use mathlib.Core.Path.{_≡_, sym, ap, _∙_}
+-- At most one outcome satisfies a contract: the law, then each public function, those that are exported to C first. Assumes nothing.
+use mathlib.Core.Path.{_≡_, refl, sym, ap, _∙_}
 use mathlib.Core.List.{List}
-use Prim.Native.Nat.{ℕ}
-use Rattle.module.specs.Formatting.{Formatted}
-use Rattle.module.specs.Command.{Lent, Outcome}
-use Rattle.host.specs.Build.{Built}
-use Rattle.module.proofs.formatting.kv_format as kv_format
-use Rattle.module.proofs.commands.kv_command as kv_command
-use Rattle.module.proofs.commands.step as step
-use Rattle.host.proofs.builder.kv_build as kv_build
-use Rattle.host.proofs.replies.kv_read_completion as kv_read_completion
-use Rattle.host.proofs.pages.kv_read_page as kv_read_page
+use Prim.Native.Nat.{ℕ, _≤_}
+use Rattle.octets.specs.Keys.{Key}
+use Rattle.octets.proofs.keys as keys
+use Rattle.octets.proofs.runs as runs
+use Rattle.octets.proofs.words as words
+use Rattle.wire.proofs.completions as completions
+use Rattle.wire.proofs.entries as entries
+use Rattle.wire.proofs.pages as pages
+use Rattle.store.specs.Maps.{Pair}
+use Rattle.store.specs.Parts.{Holds}
+use Rattle.store.proofs.formats as formats
+use Rattle.store.proofs.checks as checks
+use Rattle.store.proofs.finds as finds
+use Rattle.store.proofs.records as records
+use Rattle.store.proofs.reads as reads
+use Rattle.store.proofs.verbs as verbs
+use Rattle.memory.specs.Memory.{Memory, memory}
+use Rattle.memory.proofs.measures as measures
+use Rattle.memory.proofs.checks as memoryChecks
+use Rattle.memory.proofs.looks as looks
+use Rattle.memory.proofs.changes as changes
+use Rattle.commands.specs.Formatting.{Formatted, formatted, format}
+use Rattle.commands.specs.Command.{Post, Lent, lent, Response, response, Outcome, outcome, command}
+use Rattle.commands.proofs.formatting as formatting
+use Rattle.commands.proofs.commands as commands
+use Rattle.host.specs.Build.{Built, built, build}
+use Rattle.module.proofs.kv_format as kv_format
+use Rattle.module.proofs.kv_command as kv_command
+use Rattle.host.proofs.builder as builder
+use Rattle.host.proofs.replies as replies
+use Rattle.host.proofs.pages as hostPages
 use Rattle.promises.specs.Unique.{Determines}
 
 -- a contract that is an equation, with all that the function yields on its left: b and c are that side for two outcomes, and what
 -- can be read out of it is the same
-pub one : {B X U : Type 0} (answer : B → X) (slices : B → U) (b c d : B) → b ≡ d → c ≡ d → (answer b ≡ answer c) × (slices b ≡ slices c)
-one answer slices b c d p q = (ap answer (p ∙ sym q), ap slices (p ∙ sym q))
+pub one : {B X U : Type 0} {b c d : B} → b ≡ d → c ≡ d → (answer : B → X) (slices : B → U) → (answer b ≡ answer c) × (slices b ≡ slices c)
+one p q answer slices = (ap answer (p ∙ sym q), ap slices (p ∙ sym q))
 
 -- where nothing is lent by `&mut`, the left side is the answer
-pub value : {X U : Type 0} {u : U} (x y d : X) → x ≡ d → y ≡ d → (x ≡ y) × (u ≡ u)
-value {u = u} x y d p q = one (λ z. z) (λ z. u) x y d p q
+pub value : {X U : Type 0} {u : U} {x y d : X} → x ≡ d → y ≡ d → (x ≡ y) × (u ≡ u)
+value {u = u} p q = one p q (λ z. z) (λ z. u)
 
--- where one slice is, and there is no answer, it is that slice at exit
-pub slice : {U : Type 0} (slices : List ℕ → U) (s t d : List ℕ) → s ≡ d → t ≡ d → (_≡_ {A = Unit {0}} tt tt) × (slices s ≡ slices t)
-slice slices s t d p q = one (λ z. tt) slices s t d p q
+-- where there is no answer, it is what the slices hold at exit
+pub slice : {B U : Type 0} {s t d : B} → s ≡ d → t ≡ d → (slices : B → U) → (_≡_ {A = Unit {0}} tt tt) × (slices s ≡ slices t)
+slice p q slices = one p q (λ z. tt) slices
+
+-- ---- exported
 
 pub kv-format-one : Determines kv_format.Kinds.ps kv_format.Kinds.r kv_format.Reads.Learnt
-kv-format-one κs a x y u v p q =
-    one (λ (o : Formatted). o .number) (λ (o : Formatted). (tt, (tt, (tt, (o .after .directory, (o .after .values, tt)))))) _ _ _ p q
+kv-format-one κs a x y u v p q = one p q (λ (o : Formatted). o .number) (λ o. (tt, (tt, (tt, (o .after .directory, (o .after .values, tt))))))
 
 pub kv-command-one : Determines kv_command.Kinds.ps kv_command.Kinds.r kv_command.Reads.Learnt
 kv-command-one κs a x y u v p q =
-    one (λ (o : Outcome). o .number)
-    (λ (o : Outcome).
-    let l = o .after in
-    (tt, (l .completion, (l .buffer, (l .memory .directory, (l .memory .values, (tt, (tt, (tt, tt)))))))))
-    _ _ _ p q
+    one p q (λ (o : Outcome). o .number)
+    (λ o. let l = o .after in (tt, (l .completion, (l .buffer, (l .memory .directory, (l .memory .values, (tt, (tt, (tt, tt)))))))))
 
--- one command already read, which `kv_command` hands its slices on to
-pub step-one : Determines step.Kinds.ps step.Kinds.r step.Reads.Learnt
-step-one κs a x y u v p q =
-    one (λ (l : Lent). tt)
-    (λ (l : Lent). (tt, (l .completion, (l .buffer, (l .memory .directory, (l .memory .values, (tt, (tt, (tt, tt))))))))) _ _ _ p q
+pub kv-build-one : Determines builder.kv_build.Kinds.ps builder.kv_build.Kinds.r builder.kv_build.Reads.Learnt
+kv-build-one κs a x y u v p q = one p q (λ (b : Built). b .number) (λ b. (b .entry, (tt, (tt, (tt, (tt, (tt, (tt, tt))))))))
 
-pub kv-build-one : Determines kv_build.Kinds.ps kv_build.Kinds.r kv_build.Reads.Learnt
-kv-build-one κs a x y u v p q =
-    one (λ (b : Built). b .number) (λ (b : Built). (b .entry, (tt, (tt, (tt, (tt, (tt, (tt, tt)))))))) _ _ _ p q
+pub kv-read-completion-one : Determines replies.kv_read_completion.Kinds.ps replies.kv_read_completion.Kinds.r replies.kv_read_completion.Reads.Learnt
+kv-read-completion-one κs a x y u v p q = value p q
 
-pub kv-read-completion-one : Determines kv_read_completion.Kinds.ps kv_read_completion.Kinds.r kv_read_completion.Reads.Learnt
-kv-read-completion-one κs a x y u v p q = value _ _ _ p q
+pub kv-read-page-one : Determines hostPages.kv_read_page.Kinds.ps hostPages.kv_read_page.Kinds.r hostPages.kv_read_page.Reads.Learnt
+kv-read-page-one κs a x y u v p q = value p q
 
-pub kv-read-page-one : Determines kv_read_page.Kinds.ps kv_read_page.Kinds.r kv_read_page.Reads.Learnt
-kv-read-page-one κs a x y u v p q = value _ _ _ p q
+-- ---- octets::keys
+
+pub compare-one : Determines keys.compare.Kinds.ps keys.compare.Kinds.r keys.compare.Reads.Learnt
+compare-one κs a x y u v p q = value p q
+
+pub widen-one : Determines keys.widen.Kinds.ps keys.widen.Kinds.r keys.widen.Reads.Learnt
+widen-one κs a x y u v p q = value p q
+
+pub less-one : Determines keys.less.Kinds.ps keys.less.Kinds.r keys.less.Reads.Learnt
+less-one κs a x y u v p q = value p q
+
+pub equal-one : Determines keys.equal.Kinds.ps keys.equal.Kinds.r keys.equal.Reads.Learnt
+equal-one κs a x y u v p q = value p q
+
+pub pad-one : Determines keys.pad.Kinds.ps keys.pad.Kinds.r keys.pad.Reads.Learnt
+pad-one κs a x y u v p q = value p q
+
+pub is-clear-one : Determines keys.is_clear.Kinds.ps keys.is_clear.Kinds.r keys.is_clear.Reads.Learnt
+is-clear-one κs a x y u v p q = value p q
+
+-- ---- octets::runs
+
+pub copy-one : Determines runs.copy.Kinds.ps runs.copy.Kinds.r runs.copy.Reads.Learnt
+copy-one κs a x y u v p q = slice p q (λ s. (tt, (s, tt)))
+
+pub copy-at-one : Determines runs.copy_at.Kinds.ps runs.copy_at.Kinds.r runs.copy_at.Reads.Learnt
+copy-at-one κs a x y u v p q = slice p q (λ s. (tt, (s, (tt, tt))))
+
+pub move-up-one : Determines runs.move_up.Kinds.ps runs.move_up.Kinds.r runs.move_up.Reads.Learnt
+move-up-one κs a x y u v p q = slice p q (λ s. (s, (tt, (tt, (tt, tt)))))
+
+pub move-down-one : Determines runs.move_down.Kinds.ps runs.move_down.Kinds.r runs.move_down.Reads.Learnt
+move-down-one κs a x y u v p q = slice p q (λ s. (s, (tt, (tt, (tt, tt)))))
+
+pub clear-one : Determines runs.clear.Kinds.ps runs.clear.Kinds.r runs.clear.Reads.Learnt
+clear-one κs a x y u v p q = slice p q (λ s. (s, (tt, (tt, tt))))
+
+pub all-zero-one : Determines runs.all_zero.Kinds.ps runs.all_zero.Kinds.r runs.all_zero.Reads.Learnt
+all-zero-one κs a x y u v p q = value p q
+
+-- ---- octets::words
+
+pub read16-one : Determines words.read16.Kinds.ps words.read16.Kinds.r words.read16.Reads.Learnt
+read16-one κs a x y u v p q = value p q
+
+pub read32-one : Determines words.read32.Kinds.ps words.read32.Kinds.r words.read32.Reads.Learnt
+read32-one κs a x y u v p q = value p q
+
+pub write8-one : Determines words.write8.Kinds.ps words.write8.Kinds.r words.write8.Reads.Learnt
+write8-one κs a x y u v p q = slice p q (λ s. (s, (tt, (tt, tt))))
+
+pub write16-one : Determines words.write16.Kinds.ps words.write16.Kinds.r words.write16.Reads.Learnt
+write16-one κs a x y u v p q = slice p q (λ s. (s, (tt, (tt, tt))))
+
+pub write32-one : Determines words.write32.Kinds.ps words.write32.Kinds.r words.write32.Reads.Learnt
+write32-one κs a x y u v p q = slice p q (λ s. (s, (tt, (tt, tt))))
+
+pub smaller-one : Determines words.smaller.Kinds.ps words.smaller.Kinds.r words.smaller.Reads.Learnt
+smaller-one κs a x y u v p q = value p q
+
+-- ---- wire::completions
+
+pub write-completion-one : Determines completions.write_completion.Kinds.ps completions.write_completion.Kinds.r completions.write_completion.Reads.Learnt
+write-completion-one κs a x y u v p q = slice p q (λ s. (s, (tt, tt)))
+
+pub read-completion-one : Determines completions.read_completion.Kinds.ps completions.read_completion.Kinds.r completions.read_completion.Reads.Learnt
+read-completion-one κs a x y u v p q = value p q
+
+-- ---- wire::entries
+
+pub read-entry-one : Determines entries.read_entry.Kinds.ps entries.read_entry.Kinds.r entries.read_entry.Reads.Learnt
+read-entry-one κs a x y u v p q = value p q
+
+pub write-entry-one : Determines entries.write_entry.Kinds.ps entries.write_entry.Kinds.r entries.write_entry.Reads.Learnt
+write-entry-one κs a x y u v p q = slice p q (λ s. (s, (tt, tt)))
+
+-- ---- wire::pages
+
+pub page-entry-size-one : Determines pages.page_entry_size.Kinds.ps pages.page_entry_size.Kinds.r pages.page_entry_size.Reads.Learnt
+page-entry-size-one κs a x y u v p q = value p q
+
+pub write-page-entry-one : Determines pages.write_page_entry.Kinds.ps pages.write_page_entry.Kinds.r pages.write_page_entry.Reads.Learnt
+write-page-entry-one κs a x y u v p q = slice p q (λ s. (s, (tt, (tt, tt))))
+
+-- ---- store::formats, checks, finds
+
+pub format-at-one : Determines formats.format_at.Kinds.ps formats.format_at.Kinds.r formats.format_at.Reads.Learnt
+format-at-one κs a x y u v p q = value p q
+
+pub check-part-one : Determines checks.check_part.Kinds.ps checks.check_part.Kinds.r checks.check_part.Reads.Learnt
+check-part-one κs a x y u v p q = value p q
+
+pub find-one : Determines finds.find.Kinds.ps finds.find.Kinds.r finds.find.Reads.Learnt
+find-one κs a x y u v p q = value p q
+
+-- ---- store::records
+
+pub key-length-at-one : Determines records.key_length_at.Kinds.ps records.key_length_at.Kinds.r records.key_length_at.Reads.Learnt
+key-length-at-one κs a x y u v p q = value p q
+
+pub place-at-one : Determines records.place_at.Kinds.ps records.place_at.Kinds.r records.place_at.Reads.Learnt
+place-at-one κs a x y u v p q = value p q
+
+pub value-length-at-one : Determines records.value_length_at.Kinds.ps records.value_length_at.Kinds.r records.value_length_at.Reads.Learnt
+value-length-at-one κs a x y u v p q = value p q
+
+pub owner-at-one : Determines records.owner_at.Kinds.ps records.owner_at.Kinds.r records.owner_at.Reads.Learnt
+owner-at-one κs a x y u v p q = value p q
+
+pub wide-at-one : Determines records.wide_at.Kinds.ps records.wide_at.Kinds.r records.wide_at.Reads.Learnt
+wide-at-one κs a x y u v p q = value p q
+
+pub write-record-one : Determines records.«write_record».Kinds.ps records.«write_record».Kinds.r records.«write_record».Reads.Learnt
+write-record-one κs a x y u v p q = slice p q (λ s. (s, (tt, (tt, (tt, (tt, (tt, tt)))))))
+
+pub raise-places-one : Determines records.raise_places.Kinds.ps records.raise_places.Kinds.r records.raise_places.Reads.Learnt
+raise-places-one κs a x y u v p q = slice p q (λ s. (s, (tt, (tt, (tt, tt)))))
+
+-- ---- store::reads
+
+pub copy-value-one : Determines reads.copy_value.Kinds.ps reads.copy_value.Kinds.r reads.copy_value.Reads.Learnt
+copy-value-one κs a x y u v p q = (p .0 ∙ sym (q .0), ap (λ (b : List ℕ). (tt, (tt, (tt, (b, (tt, tt)))))) (p .1 ∙ sym (q .1)))
+
+-- ---- store::verbs: an equation for each of the two parts
+
+parts : {U : Type 0} {id n l : ℕ} {m : List Pair} {s t vs ws : List ℕ} → Holds id n l m s vs → Holds id n l m t ws
+    → (slices : List ℕ → List ℕ → U) → (_≡_ {A = Unit {0}} tt tt) × (slices s vs ≡ slices t ws)
+parts p q slices = (refl, λ i. slices ((p .records ∙ sym (q .records)) i) ((p .values ∙ sym (q .values)) i))
+
+pub insert-one : Determines verbs.insert.Kinds.ps verbs.insert.Kinds.r verbs.insert.Reads.Learnt
+insert-one κs a x y u v p q = parts p q (λ s vs. (s, (vs, (tt, (tt, (tt, (tt, (tt, (tt, tt)))))))))
+
+pub remove-one : Determines verbs.remove.Kinds.ps verbs.remove.Kinds.r verbs.remove.Reads.Learnt
+remove-one κs a x y u v p q = parts p q (λ s vs. (s, (vs, (tt, (tt, (tt, (tt, tt)))))))
+
+pub replace-one : Determines verbs.replace.Kinds.ps verbs.replace.Kinds.r verbs.replace.Reads.Learnt
+replace-one κs a x y u v p q = parts p q (λ s vs. (s, (vs, (tt, (tt, (tt, (tt, (tt, (tt, tt)))))))))
+
+-- ---- memory::measures, checks, looks
+
+pub measure-one : Determines measures.measure.Kinds.ps measures.measure.Kinds.r measures.measure.Reads.Learnt
+measure-one κs a x y u v p q = value p q
+
+pub check-one : Determines memoryChecks.check.Kinds.ps memoryChecks.check.Kinds.r memoryChecks.check.Reads.Learnt
+check-one κs a x y u v p q = value p q
+
+pub look-up-one : Determines looks.look_up.Kinds.ps looks.look_up.Kinds.r looks.look_up.Reads.Learnt
+look-up-one κs a x y u v p q = value p q
+
+pub hand-over-one : Determines looks.hand_over.Kinds.ps looks.hand_over.Kinds.r looks.hand_over.Reads.Learnt
+hand-over-one κs a x y u v p q = (p .0 ∙ sym (q .0), ap (λ (b : List ℕ). (tt, (tt, (tt, (tt, (b, (tt, tt))))))) (p .1 ∙ sym (q .1)))
+
+pub list-keys-one : Determines looks.list_keys.Kinds.ps looks.list_keys.Kinds.r looks.list_keys.Reads.Learnt
+list-keys-one κs a x y u v p q = slice p q (λ s. (tt, (tt, (tt, (s, (tt, tt))))))
+
+-- ---- memory::changes: both slices are one record
+
+pub write-empty-one : Determines changes.write_empty.Kinds.ps changes.write_empty.Kinds.r changes.write_empty.Reads.Learnt
+write-empty-one κs a x y u v p q = slice p q (λ m. (m .directory, (m .values, (tt, (tt, (tt, (tt, tt)))))))
+
+pub put-one : Determines changes.put.Kinds.ps changes.put.Kinds.r changes.put.Reads.Learnt
+put-one κs a x y u v p q = slice p q (λ m. (m .directory, (m .values, (tt, (tt, (tt, tt))))))
+
+pub erase-one : Determines changes.erase.Kinds.ps changes.erase.Kinds.r changes.erase.Reads.Learnt
+erase-one κs a x y u v p q = slice p q (λ m. (m .directory, (m .values, (tt, (tt, tt)))))
+
+-- ---- commands
+
+pub format-one : Determines formatting.format.Kinds.ps formatting.format.Kinds.r formatting.format.Reads.Learnt
+format-one κs a x y u v p q = one p q (λ (o : Formatted). o .number) (λ o. (tt, (tt, (tt, (o .after .directory, (o .after .values, tt))))))
+
+pub step-one : Determines commands.step.Kinds.ps commands.step.Kinds.r commands.step.Reads.Learnt
+step-one κs a x y u v p q = slice p q (λ l. (tt, (l .completion, (l .buffer, (l .memory .directory, (l .memory .values, (tt, (tt, (tt, tt)))))))))
+
+pub command-one : Determines commands.command.Kinds.ps commands.command.Kinds.r commands.command.Reads.Learnt
+command-one κs a x y u v p q =
+    one p q (λ (o : Outcome). o .number)
+    (λ o. let l = o .after in (tt, (l .completion, (l .buffer, (l .memory .directory, (l .memory .values, (tt, (tt, (tt, tt)))))))))
+
+-- ---- the same with the equation written out and taken apart: the exported functions that write slices, so that each thing yielded
+-- has its line
+
+pub format-parts : (i id n : ℕ) (m : Memory) (r r′ : ℕ) (d d′ v v′ : List ℕ)
+    → formatted r (memory d v) ≡ format i id n m → formatted r′ (memory d′ v′) ≡ format i id n m → (r ≡ r′) × (d ≡ d′) × (v ≡ v′)
+format-parts i id n m r r′ d d′ v v′ p q =
+    let e = p ∙ sym q in
+    (λ i. e i .number, λ i. e i .after .directory, λ i. e i .after .values)
+
+pub command-parts : (p : Post) (e : List ℕ) (l : Lent) (r r′ : ℕ) (c c′ b b′ d d′ v v′ : List ℕ)
+    → outcome r (lent c b d v) ≡ command p e l → outcome r′ (lent c′ b′ d′ v′) ≡ command p e l
+    → (r ≡ r′) × (c ≡ c′) × (b ≡ b′) × (d ≡ d′) × (v ≡ v′)
+command-parts p e l r r′ c c′ b b′ d d′ v v′ x y =
+    let f = x ∙ sym y in
+    (λ i. f i .number, λ i. f i .after .completion, λ i. f i .after .buffer, λ i. f i .after .memory .directory, λ i. f i .after .memory .values)
+
+pub build-parts : (e : List ℕ) (o cid nsid : ℕ) (k : Key) (dword10 options : ℕ) (r r′ : ℕ) (s s′ : List ℕ)
+    → built r s ≡ build e o cid nsid k dword10 options → built r′ s′ ≡ build e o cid nsid k dword10 options → (r ≡ r′) × (s ≡ s′)
+build-parts e o cid nsid k dword10 options r r′ s s′ p q =
+    let x = p ∙ sym q in
+    (λ i. x i .number, λ i. x i .entry)
+
+-- ---- `pub fn`s of modules that are not `pub`, whose contracts no other crate can name
+
+-- perform of commands::effects
+pub response-one : (r : Response) (n n′ : ℕ) (b b′ d d′ v v′ : List ℕ) → response 0 n b d v ≡ r → response 0 n′ b′ d′ v′ ≡ r
+    → (n ≡ n′) × (b ≡ b′) × (d ≡ d′) × (v ≡ v′)
+response-one r n n′ b b′ d d′ v v′ p q =
+    let e = p ∙ sym q in
+    (λ i. e i .dword0, λ i. e i .buffer, λ i. e i .memory .directory, λ i. e i .memory .values)
+
+-- key_len of memory::lists, whose contract repeats a bound that its callers lean on
+pub key-len-one : (n r r′ : ℕ) → (r ≡ n) × (r ≤ 16) → (r′ ≡ n) × (r′ ≤ 16) → r ≡ r′
+key-len-one n r r′ p q = p .0 ∙ sym (q .0)

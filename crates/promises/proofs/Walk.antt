@@ -2,56 +2,46 @@
 use mathlib.Core.Path.{_≡_, refl, sym, ap, _∙_}
 use mathlib.Core.Bool.{Bool, true, false, cond, not, _&&_, _||_, and-false}
 use mathlib.Core.List.{List, [], _∷_, _++_, append-nil, append-assoc}
-use Prim.Native.Nat.{ℕ, suc, _+_, _-_, _^_, _<_}
+use Prim.Native.Nat.{ℕ, suc, _+_, _-_}
 use native.Mathlib.Omega.{arith}
 use lib.Dec.{eqb}
 use lib.ListN.{length, replicate, length-append}
 use borrow.Author.Tests.{not-true}
-use Rattle.octets.specs.Octets.{part, put, number}
+use Rattle.octets.specs.Octets.{put}
 use Rattle.octets.specs.Keys.{Key, rising}
-use Rattle.octets.proofs.TestLaws.{both}
+use Rattle.octets.proofs.TestLaws.{both, neither}
 use Rattle.octets.proofs.OrderLaws.{true-rising}
 use Rattle.wire.specs.declared.entries.Command.{Command}
-use Rattle.wire.specs.Entry.{readCommand, writeCommand, isStore, isDelete}
-use Rattle.wire.specs.Completion.{readCompletion, writeCompletion}
-use Rattle.wire.specs.Page.{entrySize, pageEntry, page, fits, entrySteps, firstEntry, Reading, keys, readPage}
-use Rattle.wire.proofs.FitLaws.{fits-next}
+use Rattle.wire.specs.Entry.{readCommand, isStore, isDelete}
+use Rattle.wire.specs.Page.{entrySize, page, fits, Reading, keys, readPage, shown}
+use Rattle.wire.proofs.PageLaws.{fits-next}
 use Rattle.store.specs.Maps.{Pair, keys as keysOf}
-use Rattle.store.specs.Space.{Space, withPairs, formatSteps, within}
-use Rattle.store.specs.Image.{headOf, recordOf, recordsPart, valuesPart, directoryOf, valuesOf, spaceOf, legal}
-use Rattle.store.proofs.SpaceLaws.{format-bounds}
-use Rattle.store.proofs.RankLaws.{length-keys}
-use Rattle.module.specs.Steps.{steps, statusOf}
-use Rattle.module.specs.Answer.{answer, pairsAfter, shown}
-use Rattle.module.specs.Formatting.{Memory, format}
-use Rattle.module.specs.Command.{respond, serve, command}
-use Rattle.module.specs.History.{Call, formatting, commanding, run, leaves, succeeded, told}
-use Rattle.module.proofs.CommandLaws.{Holds}
-use Rattle.module.proofs.HistoryLaws.{told-call}
+use Rattle.store.specs.Namespace.{Namespace, withPairs}
+use Rattle.memory.specs.Memory.{Memory}
+use Rattle.commands.specs.Steps.{steps, statusOf}
+use Rattle.commands.specs.Answer.{answer, pairsAfter}
+use Rattle.commands.specs.History.{Call, formatting, commanding, run, leaves, succeeded, told}
+use Rattle.memory.proofs.ImageLaws.{Holds}
+use Rattle.commands.proofs.HistoryLaws.{told-call}
 use Rattle.promises.specs.Histories.{Start, begun, memoryAfter, storedAfter, never, changes}
-use Rattle.promises.specs.Requests.{Request, call, sends, asked, refusal}
+use Rattle.promises.specs.Requests.{Request, call, sends, asked}
 use Rattle.promises.specs.Walks.{pageRead, newOn, lastOf, Lists, Onward, ended, paused, next, Walk, Finds}
 use Rattle.promises.proofs.RequestLaws.{holds-after, later-steps, gives}
 use Rattle.promises.proofs.ShownLaws.{Pageable, pageable, pageable-right, fits-begins, fits-none, from-empty, from-stored, shown-read}
-use Rattle.promises.proofs.Examples.{start, start-begun, request, key, store, exist}
+use Rattle.promises.proofs.Examples.{onMemory, start, start-begun, request, key, store, exist}
 
 -- ---- calls that change nothing
 
 calm-pairs : (z : Bool) (c : Command) (b : List ℕ) (m : List Pair) → (z && (isStore (c .opcode) || isDelete (c .opcode))) ≡ false
     → cond z (pairsAfter c b m) m ≡ m
 calm-pairs false c b m e = refl
-calm-pairs true c b m e = go (isStore (c .opcode)) refl (isDelete (c .opcode)) refl
-  where
-    go : (x : Bool) → isStore (c .opcode) ≡ x → (y : Bool) → isDelete (c .opcode) ≡ y → pairsAfter c b m ≡ m
-    go true f y g = cc
-    go false f true g = cc
-    go false f false g = rw (f, g)
+calm-pairs true c b m e = let n = neither (isStore (c .opcode)) (isDelete (c .opcode)) e in rw (n .0, n .1)
 
-calm-told : (s : Space) (m : Memory) (x : Call) → not (changes x (run m x)) ≡ true → told s x (run m x) ≡ s
+calm-told : (s : Namespace) (m : Memory) (x : Call) → not (changes x (run m x)) ≡ true → told s x (run m x) ≡ s
 calm-told s m (formatting i id n) q = rw (not-true (eqb (run m (formatting i id n) .number) 0) q)
 calm-told s m (commanding p e c b) q = ap (withPairs s) (calm-pairs (succeeded (run m (commanding p e c b))) (readCommand e) b (s .pairs) (not-true _ q))
 
-calm-holds : (s : Space) (m : Memory) (xs : List Call) → Holds s m → never changes m xs ≡ true → Holds s (leaves m xs)
+calm-holds : (s : Namespace) (m : Memory) (xs : List Call) → Holds s m → never changes m xs ≡ true → Holds s (leaves m xs)
 calm-holds s m [] h c = h
 calm-holds s m (x ∷ xs) h c =
     let b = both _ _ c in
@@ -59,26 +49,19 @@ calm-holds s m (x ∷ xs) h c =
 
 -- ---- a List
 
-module _ (s : Space) (m : Memory) (k : Key) (x : Request) (h : Holds s m) (l : Lists s k x) where
+module _ (s : Namespace) (m : Memory) (k : Key) (x : Request) (h : Holds s m) (l : Lists s k x) where
   passes : statusOf true s (asked x) (length (x .buffer)) ≡ 0
   unfolding steps
   passes = later-steps s x (l .proper .passes) ∙ rw (l .proper .opcode)
 
-  listed : answer true s (asked x) (x .buffer) ≡ record {
-    status = 0;
-    dword0 = 0;
-    buffer = put 0 (page (shown (asked x .amount) k (keysOf (s .pairs)))) (x .buffer);
-    pairs = s .pairs;
-  }
+  listed : answer true s (asked x) (x .buffer)
+      ≡ record { status = 0; dword0 = 0; buffer = put 0 (page (shown (asked x .amount) k (keysOf (s .pairs)))) (x .buffer); pairs = s .pairs }
   unfolding answer
   listed = rw (passes, l .proper .opcode, l .proper .key)
 
   list-reads : pageRead m x ≡ keys (shown (asked x .amount) k (keysOf (s .pairs)))
   list-reads =
-      let b = format-bounds (s .index) (h .within .permits .index) in
-      let few : length (keysOf (s .pairs)) < 256 ^ 4 = omega (arith, length-keys (s .pairs), h .within .count) in
-      ap readPage (gives s m x h (l .proper .passes) _ listed (omega arith) .buffer)
-      ∙ shown-read (asked x .amount) k (keysOf (s .pairs)) (x .buffer) few (pageable s (h .within))
+      ap readPage (gives s m x h (l .proper .passes) _ listed (omega arith) .buffer) ∙ shown-read s (h .within) (asked x .amount) k (x .buffer)
 
   list-holds : Holds s (sends m x .after .memory)
   list-holds = calm-holds s m (call x ∷ []) h (rw (l .proper .opcode, and-false (succeeded (sends m x))))
@@ -109,7 +92,7 @@ found-more k new rest todo p t =
       few = omega (arith, t .few);
     }
 
-module _ (s : Space) where
+module _ (s : Namespace) where
   abbrev ks : List Key
   ks = keysOf (s .pairs)
 
@@ -120,12 +103,7 @@ module _ (s : Space) where
       let n = asked x .amount in
       let p : Pageable (js ++ j ∷ rest) = rw e (pageable s (h .within)) in
       let short = pageable-right js (j ∷ rest) p .1 .1 in
-      rw (
-        list-reads s m j x h l,
-        ← e,
-        from-stored js j rest (p .0),
-        fits-next (n - 4) j rest (omega (arith, l .wide)),
-      )
+      rw (list-reads s m j x h l, ← e, from-stored js j rest (p .0), fits-next (n - 4) j rest (omega (arith, l .wide)))
 
   -- js are shown, the page just read brings new, and todo is what is left to show, new included
   onward : {f : Bool} {m : Memory} {r : Reading} {pages : List Reading} → Onward s f m r pages → Holds s m
@@ -139,7 +117,8 @@ module _ (s : Space) where
       let p : k ∷ new ++ rest ≡ todo = cc in
       let j = lastOf k new in
       let held = calm-holds s m xs h calm in
-      let before : (js ++ front k new) ++ j ∷ rest ≡ ks = append-assoc js (front k new) (j ∷ rest) ∙ ap (λ (l : List Key). js ++ l) (front-last k new rest ∙ p) ∙ e in
+      let before : (js ++ front k new) ++ j ∷ rest ≡ ks =
+      append-assoc js (front k new) (j ∷ rest) ∙ ap (λ (l : List Key). js ++ l) (front-last k new rest ∙ p) ∙ e in
       let sizes = pageable-right (js ++ front k new) (j ∷ rest) (rw before (pageable s (h .within))) .1 in
       let r = asked x .amount - 4 - entrySize (length j) in
       let part = fits-begins r rest in
@@ -159,7 +138,8 @@ walk-finds-all a xs ok w =
     let h = holds-after a xs ok in
     let n = asked (w .first) .amount - 4 in
     let part = fits-begins n (ks s) in
-    let brought : pageRead m (w .first) ≡ keys (fits n (ks s)) = list-reads s m [] (w .first) h (w .lists) ∙ ap (λ (l : List Key). keys (fits n l)) (from-empty (ks s)) in (
+    let brought : pageRead m (w .first) ≡ keys (fits n (ks s)) =
+    list-reads s m [] (w .first) h (w .lists) ∙ ap (λ (l : List Key). keys (fits n l)) (from-empty (ks s)) in (
       onward s (w .onward) (list-holds s m [] (w .first) h (w .lists)) [] (fits n (ks s)) (part .0) (ks s) brought (part .1) refl
           (fits-none n (ks s) (pageable s (h .within) .1) (omega (arith, w .lists .wide))),
       true-rising (ks s) (h .within .rising),
@@ -177,7 +157,7 @@ abbrev pages : List Reading
 pages = keys (key 1 ∷ key 2 ∷ []) ∷ keys (key 3 ∷ []) ∷ keys [] ∷ []
 
 walked : Walk (storedAfter (start 7) calls) (memoryAfter (start 7) calls) true pages
-unfolding format formatSteps readCommand writeCommand part put number pageEntry page entrySteps firstEntry readPage answer statusOf steps readCompletion writeCompletion within headOf recordOf recordsPart valuesPart directoryOf valuesOf spaceOf legal respond serve command refusal
+unfolding onMemory
 walked =
     record {
       first = list [];

@@ -8,9 +8,9 @@ use Rattle.octets.specs.Octets.{part, put, number, filled}
 use Rattle.octets.specs.Keys.{Key}
 use Rattle.wire.specs.Entry.{readCommand, writeCommand}
 use Rattle.wire.specs.Page.{pageEntry, page}
-use Rattle.store.specs.Space.{Space, fresh, withPairs}
-use Rattle.module.specs.Steps.{steps, statusOf}
-use Rattle.module.specs.Answer.{Answer, answer}
+use Rattle.store.specs.Namespace.{Namespace, fresh, withPairs}
+use Rattle.commands.specs.Steps.{steps, statusOf}
+use Rattle.commands.specs.Answer.{Answer, answer}
 
 -- a 64-byte entry and the data buffer lent with it
 pub record Call : Type 0 where
@@ -34,10 +34,10 @@ pub record Case : Type 0 where
   pub size : ℕ
   pub tries : List Try
 
-abbrev pub answerTo : Space → Call → Answer
+abbrev pub answerTo : Namespace → Call → Answer
 answerTo s x = answer true s (readCommand (x .entry)) (x .buffer)
 
-abbrev pub after : Space → List Call → Space
+abbrev pub after : Namespace → List Call → Namespace
 after s [] = s
 after s (x ∷ xs) = after (withPairs s (answerTo s x .pairs)) xs
 
@@ -102,7 +102,11 @@ three = store 0 B [] ∷ store 0 A (7 ∷ []) ∷ store 0 AB [] ∷ []
 abbrev pub table : List Case
 table =
     -- P1
-    case 3 4096 (gives three (list [] (junk 16)) 0x00 0 (0x03 ∷ 0x00 ∷ 0x00 ∷ 0x00 ∷ 0x01 ∷ 0x00 ∷ 0x41 ∷ 0x00 ∷ 0x02 ∷ 0x00 ∷ 0x41 ∷ 0x42 ∷ 0x01 ∷ 0x00 ∷ 0x42 ∷ 0x00 ∷ []) ∷ [])
+    case 3 4096 (
+    gives three (list [] (junk 16)) 0x00 0
+    (0x03 ∷ 0x00 ∷ 0x00 ∷ 0x00 ∷ 0x01 ∷ 0x00 ∷ 0x41 ∷ 0x00 ∷ 0x02 ∷ 0x00 ∷ 0x41 ∷ 0x42 ∷ 0x01 ∷ 0x00 ∷ 0x42 ∷ 0x00 ∷ [])
+    ∷ []
+    )
     -- P2
     ∷ case 3 4096 (gives three (list [] (junk 15)) 0x00 0 (0x02 ∷ 0x00 ∷ 0x00 ∷ 0x00 ∷ 0x01 ∷ 0x00 ∷ 0x41 ∷ 0x00 ∷ 0x02 ∷ 0x00 ∷ 0x41 ∷ 0x42 ∷ junk 3) ∷ [])
     -- P3

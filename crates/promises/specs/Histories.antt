@@ -8,13 +8,12 @@ use lib.ListN.{take, drop}
 use Rattle.octets.specs.Octets.{same}
 use Rattle.octets.specs.Keys.{Key}
 use Rattle.wire.specs.Entry.{readCommand, keyOf, isStore, isDelete}
-use Rattle.store.specs.Formats.{needed}
+use Rattle.memory.specs.Memory.{needed, directoryOf, valuesOf, Memory}
 use Rattle.store.specs.Maps.{lookup}
-use Rattle.store.specs.Space.{Space, fresh, within}
-use Rattle.store.specs.Image.{directoryOf, valuesOf}
-use Rattle.module.specs.Formatting.{Memory, Formatted, format}
-use Rattle.module.specs.Command.{Outcome}
-use Rattle.module.specs.History.{Call, formatting, commanding, run, leaves, succeeded, stored}
+use Rattle.store.specs.Namespace.{Namespace, fresh, within}
+use Rattle.commands.specs.Formatting.{Formatted, format}
+use Rattle.commands.specs.Command.{Outcome}
+use Rattle.commands.specs.History.{Call, formatting, commanding, run, leaves, succeeded, stored}
 
 -- lent bytes, and what their formatting is given
 pub record Start : Type 0 where
@@ -29,13 +28,13 @@ begun a = format (a .index) (a .id) (a .size) (a .lent)
 abbrev pub memoryAfter : Start → List Call → Memory
 memoryAfter a xs = leaves (begun a .after) xs
 
-abbrev pub storedAfter : Start → List Call → Space
+abbrev pub storedAfter : Start → List Call → Namespace
 storedAfter a xs = stored (fresh (a .index) (a .id) (a .size)) (begun a .after) xs
 
 -- ---- what memory shows
 
 -- s is within its limits, and the needed part of the memory is its image
-pub record Shows (s : Space) (m : Memory) : Type 0 where
+pub record Shows (s : Namespace) (m : Memory) : Type 0 where
   pub within : within s ≡ true
   pub directory : take (needed (s .index)) (m .directory) ≡ directoryOf s
   pub values : take (s .size) (m .values) ≡ valuesOf s
@@ -51,7 +50,7 @@ pub record SameNeeded (index size : ℕ) (m n : Memory) : Type 0 where
   pub values : take size (m .values) ≡ take size (n .values)
 
 -- one formatting, and the same under each key
-pub record SamePairs (s t : Space) : Type 0 where
+pub record SamePairs (s t : Namespace) : Type 0 where
   pub index : s .index ≡ t .index
   pub id : s .id ≡ t .id
   pub size : s .size ≡ t .size

@@ -9,11 +9,11 @@ use Rattle.octets.specs.Tests.{firstOf}
 use Rattle.wire.specs.declared.entries.Command.{Command}
 use Rattle.wire.specs.Entry.{readCommand, keyOf, notEntry}
 use Rattle.wire.specs.Completion.{readCompletion, notCompletion}
-use Rattle.store.specs.Space.{Space}
-use Rattle.module.specs.Steps.{viewOf, steps}
-use Rattle.module.specs.Formatting.{Memory}
-use Rattle.module.specs.Command.{Post, Outcome}
-use Rattle.module.specs.History.{Call, commanding, run}
+use Rattle.store.specs.Namespace.{Namespace}
+use Rattle.commands.specs.Steps.{viewOf, steps}
+use Rattle.memory.specs.Memory.{Memory}
+use Rattle.commands.specs.Command.{Post, Outcome}
+use Rattle.commands.specs.History.{Call, commanding, run}
 
 pub record Request : Type 0 where
   pub post : Post
@@ -35,12 +35,12 @@ abbrev pub rowsToH : ℕ
 rowsToH = 9
 
 -- what numbers 1 and 2 and steps a to h say, 0 if none refuses; memory is legal after a formatting, so step a never does
-unfoldable pub refusal : Space → Request → ℕ
+unfoldable pub refusal : Namespace → Request → ℕ
 refusal s x =
     firstOf (notEntry (x .entry) ∷ notCompletion (x .completion) ∷ take rowsToH (steps (viewOf true s (asked x) (length (x .buffer))) (asked x)))
 
 -- opcode op and key k, and nothing before step i refuses it where s is stored
-pub record Proper (s : Space) (op : ℕ) (k : Key) (x : Request) : Type 0 where
+pub record Proper (s : Namespace) (op : ℕ) (k : Key) (x : Request) : Type 0 where
   pub opcode : asked x .opcode ≡ op
   pub key : keyOf (asked x) ≡ k
   pub passes : refusal s x ≡ 0

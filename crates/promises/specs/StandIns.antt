@@ -9,9 +9,10 @@ use Rattle.octets.specs.Keys.{Key}
 use Rattle.wire.specs.Entry.{readCommand, isList}
 use Rattle.wire.specs.Completion.{readCompletion}
 use Rattle.wire.specs.Page.{Reading, refused, keys, readPage}
-use Rattle.module.specs.Formatting.{Memory, memory, format}
-use Rattle.module.specs.Command.{Post, post, completionOf, Outcome, outcome}
-use Rattle.module.specs.History.{Call, formatting, commanding, lend, run, succeeded}
+use Rattle.memory.specs.Memory.{Memory, memory}
+use Rattle.commands.specs.Formatting.{format}
+use Rattle.commands.specs.Command.{Post, post, completionOf, Outcome, outcome}
+use Rattle.commands.specs.History.{Call, formatting, commanding, lend, run, succeeded}
 use Rattle.promises.specs.Cases as Cases
 
 -- ---- devices and what they promise
@@ -42,7 +43,9 @@ status o = readCompletion (o .after .completion) .status
 
 -- "a module that always says 81h, and one that says 00h to all"
 abbrev pub Says : ℕ → Device → Type 0
-Says st d = (before : List Call) (m : Memory) (p : Post) (e c b : List ℕ) → d before m (commanding p e c b) .number ≡ 0 → status (d before m (commanding p e c b)) ≡ st
+Says st d =
+    (before : List Call) (m : Memory) (p : Post) (e c b : List ℕ) → d before m (commanding p e c b) .number ≡ 0
+    → status (d before m (commanding p e c b)) ≡ st
 
 -- "one that leaves the store as it is"
 abbrev pub Leaves : Device → Type 0

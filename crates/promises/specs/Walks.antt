@@ -7,9 +7,9 @@ use Prim.Native.Nat.{_+_, _≤_}
 use lib.ListN.{length, drop}
 use Rattle.octets.specs.Keys.{Key}
 use Rattle.wire.specs.Page.{Reading, refused, keys, behind, readPage}
-use Rattle.store.specs.Space.{Space}
-use Rattle.module.specs.Formatting.{Memory}
-use Rattle.module.specs.History.{Call, leaves}
+use Rattle.store.specs.Namespace.{Namespace}
+use Rattle.memory.specs.Memory.{Memory}
+use Rattle.commands.specs.History.{Call, leaves}
 use Rattle.promises.specs.Histories.{never, changes}
 use Rattle.promises.specs.Requests.{Request, sends, asked, Proper}
 
@@ -33,13 +33,13 @@ joined (refused n ∷ pages) = refused n
 joined (keys ks ∷ pages) = behind ks (joined pages)
 
 -- a List from k; 44 bytes hold the count and two entries of the longest keys, so a later page has room for a new key
-pub record Lists (s : Space) (k : Key) (x : Request) : Type 0 where
+pub record Lists (s : Namespace) (k : Key) (x : Request) : Type 0 where
   pub proper : Proper s 0x06 k x
   pub wide : 44 ≤ asked x .amount
 
 -- The new keys page by page, where memory is m and the page just read brought r; other calls may stand between two Lists.
 -- true: that page brought no new key; false: the host has not gone on yet.
-pub data Onward (s : Space) : Bool → Memory → Reading → List Reading → Type 0 where
+pub data Onward (s : Namespace) : Bool → Memory → Reading → List Reading → Type 0 where
   ended : {m : Memory} → Onward s true m (keys []) (keys [] ∷ [])
   paused : {m : Memory} {r : Reading} → Onward s false m r (r ∷ [])
   next : {f : Bool} {m : Memory} {k : Key} {ks : List Key} {pages : List Reading} (xs : List Call) (x : Request)
@@ -48,7 +48,7 @@ pub data Onward (s : Space) : Bool → Memory → Reading → List Reading → T
       → Onward s f m (keys (k ∷ ks)) (keys (k ∷ ks) ∷ pages)
 
 -- on memory m, where s is stored
-pub record Walk (s : Space) (m : Memory) (f : Bool) (pages : List Reading) : Type 0 where
+pub record Walk (s : Namespace) (m : Memory) (f : Bool) (pages : List Reading) : Type 0 where
   pub first : Request
   pub lists : Lists s [] first
   pub onward : Onward s f (sends m first .after .memory) (pageRead m first) pages

@@ -1,16 +1,20 @@
 -- What stands in the record of a pair, whatever stands behind it. Assumes nothing.
-use mathlib.Core.Path.{_≡_, refl, ap, _∙_}
+use mathlib.Core.Path.{_≡_, refl, sym, ap, _∙_}
 use mathlib.Core.List.{List, _++_, append-assoc}
 use Prim.Native.Nat.{ℕ, _+_, _-_, _^_, _≤_, _<_}
 use native.Mathlib.Omega.{arith}
 use lib.ListN.{length, take, drop, length-append, length-replicate}
 use lib.Seq.{take-append-seam, take-at}
 use Rattle.octets.specs.Octets.{part, number, bytes, zeros, filled}
-use Rattle.octets.proofs.PartLaws.{drop-past}
+use Rattle.octets.proofs.PartLaws.{part-drop, drop-past}
 use Rattle.octets.proofs.NumberLaws.{number-bytes}
 use Rattle.octets.proofs.ZeroLaws.{length-filled}
 use Rattle.store.specs.Maps.{Pair}
-use Rattle.store.specs.Image.{recordOf}
+use Rattle.store.specs.Records.{recordOf, keyLength, place, valueLength, owner}
+
+-- a word of the record of a slot is one of the part
+pub word-at : (at k : ℕ) (s : List ℕ) {r : ℕ} → r ≡ number (part (at + k) 4 s) → r ≡ number (part k 4 (drop at s))
+word-at at k s e = e ∙ ap number (sym (part-drop at k 4 s))
 
 module _ (id at : ℕ) (p : Pair) (short : length (p .key) ≤ 16) where
   pub length-record : length (recordOf id at p) ≡ 32
@@ -42,16 +46,16 @@ module _ (id at : ℕ) (p : Pair) (short : length (p .key) ≤ 16) where
     unfolding part
     word-in i v e h = ap (λ (ys : List ℕ). number (take 4 ys)) (past i) ∙ ap number e ∙ number-bytes 4 v h
 
-    pub key-length-in : number (part 16 4 (recordOf id at p ++ x)) ≡ length (p .key)
+    pub key-length-in : keyLength (recordOf id at p ++ x) ≡ length (p .key)
     key-length-in = word-in 0 (length (p .key)) refl (omega arith)
 
-    pub place-in : at < 2 ^ 32 → number (part 20 4 (recordOf id at p ++ x)) ≡ at
+    pub place-in : at < 2 ^ 32 → place (recordOf id at p ++ x) ≡ at
     place-in = word-in 4 at refl
 
-    pub value-length-in : length (p .value) < 2 ^ 32 → number (part 24 4 (recordOf id at p ++ x)) ≡ length (p .value)
+    pub value-length-in : length (p .value) < 2 ^ 32 → valueLength (recordOf id at p ++ x) ≡ length (p .value)
     value-length-in = word-in 8 (length (p .value)) refl
 
-    pub id-in : id < 2 ^ 32 → number (part 28 4 (recordOf id at p ++ x)) ≡ id
+    pub id-in : id < 2 ^ 32 → owner (recordOf id at p ++ x) ≡ id
     id-in = word-in 12 id refl
 
     pub rest-in : drop 32 (recordOf id at p ++ x) ≡ x

@@ -2,20 +2,20 @@
 use mathlib.Core.Path.{_≡_, sym, ap, _∙_}
 use mathlib.Core.List.{List, [], _∷_, _++_, append-assoc}
 use Prim.Native.Nat.{ℕ, suc, _+_, _-_, _*_, _^_, _≤_, _<_}
-use native.Mathlib.Nat.{add-zero, zero-add}
+use native.Mathlib.Nat.{zero-add}
 use native.Mathlib.Omega.{arith}
-use lib.ListN.{length, take, drop, length-append, take-append-drop}
-use lib.Seq.{length-take-le, drop-cons, drop-at, split-at}
-use Rattle.octets.specs.Octets.{part, number, zeros, filled}
-use Rattle.octets.proofs.PartLaws.{part-seam, part-drop}
-use Rattle.store.specs.declared.heads.Head.{Head}
+use lib.ListN.{length, take, drop, length-append, length-drop, take-append-drop}
+use lib.Seq.{length-take-le, drop-cons, drop-at, drop-append-seam, split-at}
+use Rattle.octets.specs.Octets.{part, zeros}
+use Rattle.octets.proofs.PartLaws.{part-seam}
+use Rattle.octets.proofs.ZeroLaws.{zeros-all}
 use Rattle.store.specs.Maps.{Pair, pair, values}
-use Rattle.store.specs.Image.{recordOf, recordsOf, recordsPart, valuesPart}
-use Rattle.store.specs.Parts.{slots, Shows}
+use Rattle.store.specs.Records.{recordOf, recordsOf, recordsPart, valuesPart, keyLength, place, valueLength, valueIn}
+use Rattle.store.specs.Parts.{Recorded, Holds, inserted, erased}
+use Rattle.store.specs.Finds.{KeyFits}
 use Rattle.store.specs.Verbs.{pairAt}
-use Rattle.store.proofs.RecordLaws.{sixteen-in, key-in, key-length-in, place-in, value-length-in}
-use Rattle.store.proofs.ImageLaws.{Recorded, length-records}
-use Rattle.store.proofs.EditLaws.{values-append, records-append}
+use Rattle.store.proofs.RecordLaws.{sixteen-in, key-length-in, place-in, value-length-in}
+use Rattle.store.proofs.PartsLaws.{length-records, values-append, records-append}
 
 recorded-parts : (a b : List Pair) → Recorded (a ++ b) → Recorded a × Recorded b
 recorded-parts [] b r = (tt, r)
@@ -34,73 +34,89 @@ values-cut i m =
     ∙ ap (λ (n : List Pair). length (values n)) (take-append-drop i m)
 
 module _ (m : List Pair) (i : ℕ) (inside : i < length m) where
-  abbrev place : ℕ
-  place = length (values (take i m))
-
-  whole : take i m ++ pairAt m i ∷ drop (suc i) m ≡ m
+  pub whole : take i m ++ pairAt m i ∷ drop (suc i) m ≡ m
   whole = sym (split-at m i (pair [] []) inside)
 
-  pub value-cut : place + length (pairAt m i .value) + length (values (drop (suc i) m)) ≡ length (values m)
+  pub value-cut : length (values (take i m)) + length (pairAt m i .value) + length (values (drop (suc i) m)) ≡ length (values m)
   value-cut =
       let e : length (values (drop i m)) ≡ length (pairAt m i .value) + length (values (drop (suc i) m)) =
       ap (λ (n : List Pair). length (values n)) (drop-cons m i (pair [] []) inside) ∙ length-append (pairAt m i .value) (values (drop (suc i) m)) in
       omega (arith, values-cut i m)
 
-  module _ (r : Recorded m) where
-    before : (id : ℕ) → length (recordsOf id 0 (take i m)) ≡ 32 * i
-    before id = length-records id 0 (take i m) (recorded-cut i m r .0) ∙ ap (λ (k : ℕ). 32 * k) (length-take-le i m (omega arith))
+  pub recorded-at : Recorded m → (length (pairAt m i .key) ≤ 16) × (length (pairAt m i .value) < 2 ^ 32)
+  recorded-at r =
+      let q : Recorded (pairAt m i ∷ drop (suc i) m) = rw (drop-cons m i (pair [] []) inside) at (recorded-cut i m r .1) in
+      (q .0, q .1)
 
-    pub recorded-at : (length (pairAt m i .key) ≤ 16) × (length (pairAt m i .value) < 2 ^ 32)
-    recorded-at =
-        let q : Recorded (pairAt m i ∷ drop (suc i) m) = rw (drop-cons m i (pair [] []) inside) at (recorded-cut i m r .1) in
-        (q .0, q .1)
+-- ---- a pair more, and one less
 
-    module _ (h : Head) (s vs : List ℕ) (g : Shows h m s vs) where
-      abbrev key : List ℕ
-      key = pairAt m i .key
+pub length-erased : (i : ℕ) (m : List Pair) → i < length m → length (erased i m) ≡ length m - 1
+unfolding erased
+length-erased i m l = length-append (take i m) (drop (suc i) m) ∙ omega (arith, length-take-le i m (omega arith), length-drop (suc i) m)
 
-      abbrev value : List ℕ
-      value = pairAt m i .value
+pub length-inserted : (i : ℕ) (p : Pair) (m : List Pair) → i ≤ length m → length (inserted i p m) ≡ length m + 1
+unfolding inserted
+length-inserted i p m l = length-append (take i m) (p ∷ drop i m) ∙ omega (arith, length-take-le i m l, length-drop i m)
 
-      abbrev ahead : List ℕ
-      ahead = recordsOf (h .id) 0 (take i m)
+pub values-inserted : (i : ℕ) (p : Pair) (m : List Pair) → i ≤ length m → length (values (inserted i p m)) ≡ length (values m) + length (p .value)
+unfolding inserted
+values-inserted i p m l =
+    let v = values (drop i m) in
+    rw (values-append (take i m) (p ∷ drop i m), length-append (values (take i m)) (p .value ++ v), length-append (p .value) v) (omega (arith, values-cut i m))
 
-      abbrev rest : List ℕ
-      rest = recordsOf (h .id) (place + length value) (drop (suc i) m) ++ zeros (32 * slots h - length (recordsOf (h .id) 0 m))
+pub values-erased : (i : ℕ) (m : List Pair) → i < length m → length (values (erased i m)) + length (pairAt m i .value) ≡ length (values m)
+unfolding erased
+values-erased i m l =
+    rw (values-append (take i m) (drop (suc i) m), length-append (values (take i m)) (values (drop (suc i) m))) (omega (arith, value-cut m i l))
 
-      slot : s ≡ ahead ++ recordOf (h .id) place (pairAt m i) ++ rest
-      unfolding recordsPart
-      slot =
-          let e : recordsOf (h .id) 0 m ≡ ahead ++ recordsOf (h .id) place (pairAt m i ∷ drop (suc i) m) =
-          ap (recordsOf (h .id) 0) (sym whole) ∙ records-append (h .id) 0 (take i m) (pairAt m i ∷ drop (suc i) m) ∙ rw (zero-add place) in
-          g .records ∙ ap (λ (l : List ℕ). l ++ zeros (32 * slots h - length (recordsOf (h .id) 0 m))) e ∙ simp append-assoc
+-- ---- the image
 
-      field : (b n : ℕ) → part (32 * i + b) n s ≡ part b n (recordOf (h .id) place (pairAt m i) ++ rest)
-      field b n =
-          sym (part-drop (32 * i) b n s)
-          ∙ ap (λ (l : List ℕ). part b n (drop (32 * i) l)) (slot ∙ append-assoc ahead (recordOf (h .id) place (pairAt m i)) rest)
-          ∙ ap (part b n) (drop-at ahead _ (32 * i) (before (h .id)))
+module _ {id n l : ℕ} {m : List Pair} {s vs : List ℕ} (h : Holds id n l m s vs) (i : ℕ) (inside : i < length m) where
+  abbrev p : Pair
+  p = pairAt m i
 
-      pub sixteen-at : part (32 * i) 16 s ≡ filled 16 key
-      sixteen-at = rw add-zero at (field 0 16) ∙ sixteen-in (h .id) place (pairAt m i) (recorded-at .0) rest
+  abbrev at : ℕ
+  at = length (values (take i m))
 
-      pub key-at : part (32 * i) (length key) s ≡ key
-      unfolding part
-      key-at = rw add-zero at (field 0 (length key)) ∙ key-in (h .id) place (pairAt m i) (recorded-at .0) rest
+  r : (length (p .key) ≤ 16) × (length (p .value) < 2 ^ 32)
+  r = recorded-at m i inside (h .recorded)
 
-      pub key-length-at : number (part (32 * i + 16) 4 s) ≡ length key
-      key-length-at = ap number (field 16 4) ∙ key-length-in (h .id) place (pairAt m i) (recorded-at .0) rest
+  abbrev behind : List ℕ
+  behind = recordsOf id (at + length (p .value)) (drop (suc i) m) ++ zeros (n - length (recordsOf id 0 m))
 
-      pub place-at : length (values m) < 2 ^ 32 → number (part (32 * i + 20) 4 s) ≡ place
-      place-at l = ap number (field 20 4) ∙ place-in (h .id) place (pairAt m i) (recorded-at .0) rest (omega (arith, values-cut i m))
+  slot : drop (32 * i) s ≡ recordOf id at p ++ behind
+  unfolding recordsPart
+  slot =
+      let ahead = recordsOf id 0 (take i m) in
+      let e : recordsOf id 0 m ≡ ahead ++ recordsOf id at (p ∷ drop (suc i) m) =
+      ap (recordsOf id 0) (sym (whole m i inside)) ∙ records-append id 0 (take i m) (p ∷ drop (suc i) m) ∙ rw (zero-add at) in
+      let long : length ahead ≡ 32 * i =
+      length-records id 0 (take i m) (recorded-cut i m (h .recorded) .0) ∙ ap (λ (k : ℕ). 32 * k) (length-take-le i m (omega arith)) in
+      let f : s ≡ ahead ++ (recordOf id at p ++ behind) =
+      h .records ∙ ap (λ (x : List ℕ). x ++ zeros (n - length (recordsOf id 0 m))) e ∙ simp append-assoc in
+      ap (drop (32 * i)) f ∙ drop-at ahead _ (32 * i) long
 
-      pub length-at : number (part (32 * i + 24) 4 s) ≡ length value
-      length-at = ap number (field 24 4) ∙ value-length-in (h .id) place (pairAt m i) (recorded-at .0) rest (recorded-at .1)
+  pub key-length-at : keyLength (drop (32 * i) s) ≡ length (p .key)
+  key-length-at = rw slot (key-length-in id at p (r .0) behind)
 
-      pub value-at : part place (length value) vs ≡ value
-      unfolding valuesPart
-      value-at =
-          let e : values m ≡ values (take i m) ++ (value ++ values (drop (suc i) m)) = ap values (sym whole) ∙ values-append (take i m) (pairAt m i ∷ drop (suc i) m) in
-          let z = zeros (h .size - length (values m)) in
-          let f : values (take i m) ++ (value ++ values (drop (suc i) m)) ++ z ≡ values (take i m) ++ value ++ (values (drop (suc i) m) ++ z) = simp append-assoc in
-          ap (part place (length value)) (g .values ∙ ap (λ (l : List ℕ). l ++ z) e ∙ f) ∙ part-seam (values (take i m)) value (values (drop (suc i) m) ++ z)
+  pub place-at : place (drop (32 * i) s) ≡ at
+  place-at = rw slot (place-in id at p (r .0) behind (omega (arith, values-cut i m, h .room, h .small)))
+
+  pub value-length-at : valueLength (drop (32 * i) s) ≡ length (p .value)
+  value-length-at = rw slot (value-length-in id at p (r .0) behind (r .1))
+
+  pub key-fits-at : KeyFits (drop (32 * i) s)
+  key-fits-at =
+      record {
+        short = rw key-length-at (r .0);
+        padded = rw (key-length-at, slot, sixteen-in id at p (r .0) behind, drop-append-seam) (zeros-all (16 - length (p .key)));
+      }
+
+  pub value-at : valueIn (drop (32 * i) s) vs ≡ p .value
+  unfolding valuesPart
+  value-at =
+      let v = values (drop (suc i) m) in
+      let z = zeros (l - length (values m)) in
+      let e : values m ≡ values (take i m) ++ (p .value ++ v) = ap values (sym (whole m i inside)) ∙ values-append (take i m) (p ∷ drop (suc i) m) in
+      let f : vs ≡ values (take i m) ++ p .value ++ (v ++ z) = h .values ∙ ap (λ (x : List ℕ). x ++ z) e ∙ simp append-assoc in
+      rw (place-at, value-length-at) (ap (part at (length (p .value))) f ∙ part-seam (values (take i m)) (p .value) (v ++ z))

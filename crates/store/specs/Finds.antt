@@ -2,11 +2,12 @@
 use mathlib.Core.Path.{_≡_}
 use mathlib.Core.Bool.{Bool, true, false}
 use mathlib.Core.List.{List, [], _∷_}
-use Prim.Native.Nat.{ℕ, zero, suc, _+_, _*_, _≤_, _<_}
+use Prim.Native.Nat.{ℕ, zero, suc, min, _*_, _≤_, _<_}
 use lib.ListN.{length, take, drop}
-use Rattle.octets.specs.Octets.{part, number, allZero}
+use Rattle.octets.specs.Octets.{part, allZero}
 use Rattle.octets.specs.Keys.{Key, order, three, rising}
 use Rattle.store.specs.declared.finds.Found.{Found}
+use Rattle.store.specs.Records.{keyLength}
 
 -- how many keys from the front are below k
 abbrev pub rank : Key → List Key → ℕ
@@ -20,15 +21,25 @@ hasKey k (j ∷ ks) = three (order k j) false true (hasKey k ks)
 -- the keys of n records, asking nothing
 abbrev pub keysIn : ℕ → List ℕ → List Key
 keysIn zero s = []
-keysIn (suc n) s = take (number (part 16 4 s)) s ∷ keysIn n (drop 32 s)
+keysIn (suc n) s = take (keyLength s) s ∷ keysIn n (drop 32 s)
 
-abbrev pub found : Key → List Key → Found
-found k ks = record { held = hasKey k ks; slot = rank k ks }
+-- the key that was looked for, and where it stands among ks
+abbrev pub foundKey : Found → Key
+foundKey f = take (f .len) (f .key)
 
--- n records lie in s, whose keys rise, each within its sixteen bytes and with zeros behind it
+abbrev pub found : List ℕ → ℕ → List Key → Found
+found key n ks =
+    let k = take (min n 16) key in
+    record { key = key; len = min n 16; held = hasKey k ks; slot = rank k ks }
+
+-- the key of the record at the front of s is within its sixteen bytes and has zeros behind it
+pub record KeyFits (s : List ℕ) : Type 0 where
+  pub short : keyLength s ≤ 16
+  pub padded : allZero (drop (keyLength s) (part 0 16 s)) ≡ true
+
+-- n records lie in s, whose keys fit and rise
 pub record KeysFit (n : ℕ) (s : List ℕ) : Type 0 where
   pub lie : 32 * n ≤ length s
   pub few : n ≤ 1024
-  pub short : (j : ℕ) → j < n → number (part (32 * j + 16) 4 s) ≤ 16
-  pub padded : (j : ℕ) → j < n → allZero (drop (number (part (32 * j + 16) 4 s)) (part (32 * j) 16 s)) ≡ true
+  pub fit : (j : ℕ) → j < n → KeyFits (drop (32 * j) s)
   pub rise : rising (keysIn n s) ≡ true

@@ -7,6 +7,6 @@ use Rattle.store.specs.declared.formats.Format.{Format}
 abbrev pub formatOf : ℕ → Format
 formatOf i = record { keymax = 4 * (i % 4 + 1); valuemax = 64 * 4 ^ (i / 4); maxkeys = 1024 / 4 ^ (i / 4) }
 
--- bytes needed of the directory: a 64-byte head and 32 bytes for each key allowed
-abbrev pub needed : ℕ → ℕ
-needed i = 64 + 32 * formatOf i .maxkeys
+-- slots for keys
+abbrev pub slots : ℕ → ℕ
+slots i = formatOf i .maxkeys

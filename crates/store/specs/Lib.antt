@@ -1,9 +1,8 @@
 pub mod Formats
 pub mod Maps
-pub mod Space
-pub mod Image
+pub mod Namespace
+pub mod Records
 pub mod Parts
 pub mod Checks
 pub mod Finds
 pub mod Verbs
-pub mod Reads

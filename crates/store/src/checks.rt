@@ -1,21 +1,20 @@
-// Whether the store's memory is legal, found in one pass over the records, with the sums that the pass has made.
+// Whether two parts are the image of a map, found in one pass over the records, with the sums that the pass has made.
 use crate::formats::Format;
-use crate::formats::format_at;
-use crate::heads::Head;
-use crate::heads::directory_size;
-use crate::heads::is_permitted;
-use crate::heads::read_head;
+use crate::namespaces::Label;
+use crate::records::key_length_at;
+use crate::records::owner_at;
+use crate::records::place_at;
+use crate::records::value_length_at;
 use octets::keys::Wide;
 use octets::keys::is_clear;
 use octets::keys::less;
 use octets::keys::widen;
 use octets::runs::all_zero;
-use octets::words::read32;
 ghost use mathlib.Core.Path.{_≡_};
 ghost use Prim.Native.Nat.{_+_, _*_, _≤_};
 ghost use lib.ListN.{length, drop};
 ghost use Rattle.octets.specs.Tests.{all};
-ghost use Rattle.store.specs.Checks.{Readable, Checkable, slotIn, slotTests, firstWide, passOver, partSums, checked};
+ghost use Rattle.store.specs.Checks.{Readable, Checkable, slotIn, slotTests, firstWide, passOver, partSums};
 
 // The sum of the value lengths and the used room of parts that are legal, so that no command adds them up again.
 pub struct Sums {
@@ -30,54 +29,36 @@ const NO_SUMS: Sums = Sums {
     used: 0,
 };
 
-// The same of the whole memory, with the head that was read.
-pub struct Checked {
-    pub ok: bool,
-    pub head: Head,
-    pub total: u32,
-    pub used: u32,
-}
-
-const NOT_LEGAL: Checked = Checked {
-    ok: false,
-    head: Head {
-        id: 0,
-        index: 0,
-        size: 0,
-        count: 0,
-    },
-    total: 0,
-    used: 0,
-};
-
 // What a record says. The key as numbers serves its own tests and, as the key before, those of the next record.
 struct Slot {
     key: Wide,
-    length: u32,
+    keylength: u32,
     place: u32,
-    size: u32,
-    id: u32,
+    valuelength: u32,
+    owner: u32,
 }
 
-fn slot_at(records: &[u8], at: usize) -> Slot
-    requires { ⌜ at + 32 ≤ length (now records) ⌝ }
-    ensures { λ r. ⌜ r ≡ slotIn (drop at (now (records .entry))) ⌝ }
+fn slot_at(records: &[u8], slot: u32) -> Slot
+    requires { ⌜ 32 * slot + 32 ≤ length (now records) ⌝ }
+    ensures { λ r. ⌜ r ≡ slotIn (drop (32 * slot) (now (records .entry))) ⌝ }
 {
-    let length = read32(records, at + 16);
+    let keylength = key_length_at(records, slot);
     Slot {
-        key: widen(records, at, length as u64),
-        length,
-        place: read32(records, at + 20),
-        size: read32(records, at + 24),
-        id: read32(records, at + 28),
+        key: widen(records, 32 * slot as usize, keylength as u64),
+        keylength,
+        place: place_at(records, slot),
+        valuelength: value_length_at(records, slot),
+        owner: owner_at(records, slot),
     }
 }
 
-fn slot_ok(r: Slot, before: Wide, total: u32, h: Head, f: Format) -> bool
-    ensures { λ ok. ⌜ ok ≡ all (slotTests h f total before r) ⌝ }
+fn slot_ok(r: Slot, before: Wide, total: u32, id: u32, f: Format) -> bool
+    ensures { λ ok. ⌜ ok ≡ all (slotTests id f total before r) ⌝ }
 {
-    let sized = (1 <= r.length) & (r.length <= (f.keymax as u32)) & (r.size <= f.valuemax);
-    if !(sized & (r.place == total) & (r.id == h.id)) {
+    let sized = (1 <= r.keylength)
+        & (r.keylength <= (f.keymax as u32))
+        & (r.valuelength <= f.valuemax);
+    if !(sized & (r.place == total) & (r.owner == id)) {
         return false;
     }
     if !less(before, r.key) {
@@ -87,11 +68,10 @@ fn slot_ok(r: Slot, before: Wide, total: u32, h: Head, f: Format) -> bool
 }
 
 // The key before the first record is the empty one, which is below every other.
-fn check_records(records: &[u8], h: Head, f: Format) -> Sums
-    requires { ⌜ Readable h f (now records) ⌝ }
-    ensures { λ r. ⌜ r ≡ passOver (h .count) h f 0 0 firstWide (now (records .entry)) ⌝ }
+fn check_records(records: &[u8], id: u32, count: u32, f: Format) -> Sums
+    requires { ⌜ Readable count f (now records) ⌝ }
+    ensures { λ r. ⌜ r ≡ passOver count id f 0 0 firstWide (now (records .entry)) ⌝ }
 {
-    let count = h.count as usize;
     let mut before = Wide {
         high: 0,
         low: 0,
@@ -101,12 +81,12 @@ fn check_records(records: &[u8], h: Head, f: Format) -> Sums
     let mut used: u32 = 0;
     let mut j = 0;
     while j < count {
-        let r = slot_at(records, 32 * j);
-        if !slot_ok(r, before, total, h, f) {
+        let r = slot_at(records, j);
+        if !slot_ok(r, before, total, id, f) {
             return NO_SUMS;
         }
-        total += r.size;
-        used += r.length + r.size;
+        total += r.valuelength;
+        used += r.keylength + r.valuelength;
         before = r.key;
         j += 1;
     }
@@ -117,51 +97,22 @@ fn check_records(records: &[u8], h: Head, f: Format) -> Sums
     }
 }
 
-// "Memory is legal exactly if it is the image of a map within the limits": of the two parts, behind a permitted head.
-pub fn check_part(records: &[u8], values: &[u8], h: Head) -> Sums
-    requires { ⌜ Checkable h (now records) (now values) ⌝ }
-    ensures { λ r. ⌜ r ≡ partSums h (now (records .entry)) (now (values .entry)) ⌝ }
+// The two parts of a namespace under its own format.
+pub fn check_part(records: &[u8], values: &[u8], n: Label, f: Format) -> Sums
+    requires { ⌜ Checkable n f (now records) (now values) ⌝ }
+    ensures { λ r. ⌜ r ≡ partSums n (now (records .entry)) (now (values .entry)) ⌝ }
 {
-    let f = format_at(h.index);
-    if f.maxkeys < h.count {
+    if f.maxkeys < n.count {
         return NO_SUMS;
     }
-    let sums = check_records(records, h, f);
-    if !sums.ok | (h.size < sums.used) {
+    let sums = check_records(records, n.id, n.count, f);
+    if !sums.ok | (n.size < sums.used) {
         return NO_SUMS;
     }
-    let end = 32 * (h.count as usize);
+    let end = 32 * (n.count as usize);
     let total = sums.total as usize;
     if !(all_zero(&records[end..]) & all_zero(&values[total..])) {
         return NO_SUMS;
     }
     sums
-}
-
-// Step a. No `requires`: every content and every length of the slices has its answer. Bytes past the needed part are not read.
-pub fn check(directory: &[u8], values: &[u8]) -> Checked
-    ensures { λ r. ⌜ r ≡ checked (now (directory .entry)) (now (values .entry)) ⌝ }
-{
-    if directory.len() < 64 {
-        return NOT_LEGAL;
-    }
-    let h = read_head(directory);
-    if !is_permitted(h, directory.len(), values.len()) {
-        return NOT_LEGAL;
-    }
-    if !all_zero(&directory[16..64]) {
-        return NOT_LEGAL;
-    }
-    let end = directory_size(h.index);
-    let size = h.size as usize;
-    let sums = check_part(&directory[64..end], &values[..size], h);
-    if !sums.ok {
-        return NOT_LEGAL;
-    }
-    Checked {
-        ok: true,
-        head: h,
-        total: sums.total,
-        used: sums.used,
-    }
 }

@@ -1,9 +1,9 @@
-// The store in two lent slices. The inner functions work on a records part, a values part and the head's numbers by value, never
-// on the whole directory.
+// One namespace in its two parts: a record for each pair in one, the values in the other. The functions take the parts and a
+// namespace's numbers by value: where the parts lie is not known here.
 pub mod checks;
 pub mod finds;
 pub mod formats;
-pub mod heads;
+pub mod namespaces;
 pub mod reads;
 pub mod records;
 pub mod verbs;

@@ -1,8 +1,8 @@
-// The two verbs on a records part and a values part: a pair put in before a slot, and the pair at a slot taken out. Image in, image out.
-use crate::heads::Head;
-use crate::records::length_at;
+// The verbs on a records part and a values part: a pair put in before a slot, the pair at a slot taken out, or another put in its
+// place. Image in, image out.
 use crate::records::place_at;
 use crate::records::raise_places;
+use crate::records::value_length_at;
 use crate::records::write_record;
 use octets::runs::clear;
 use octets::runs::copy_at;
@@ -10,13 +10,13 @@ use octets::runs::move_down;
 use octets::runs::move_up;
 ghost use mathlib.Core.Path.{_≡_};
 ghost use mathlib.Core.List.{_++_};
-ghost use Prim.Native.Nat.{_+_, _*_, _-_, _^_, _≤_, _<_};
+ghost use Prim.Native.Nat.{_+_, _*_, _-_, _≤_, _<_};
 ghost use lib.ListN.{length};
 ghost use Rattle.octets.specs.Octets.{part, put, zeros};
 ghost use Rattle.store.specs.Maps.{pair};
-ghost use Rattle.store.specs.Image.{recordOf, pairsIn};
-ghost use Rattle.store.specs.Parts.{Shows, inserted, erased};
-ghost use Rattle.store.specs.Verbs.{raised, placeFor, CanInsert, CanRemove, CanReplace};
+ghost use Rattle.store.specs.Records.{pairsIn};
+ghost use Rattle.store.specs.Parts.{Holds, inserted, erased};
+ghost use Rattle.store.specs.Verbs.{recordIn, recordOut, placeFor, CanRecord, CanInsert, CanRemove, CanReplace};
 
 // A value put in at an index, before n bytes.
 fn insert_value(values: &mut [u8], at: usize, n: usize, value: &[u8])
@@ -36,36 +36,43 @@ fn remove_value(values: &mut [u8], at: usize, k: usize, n: usize)
     clear(values, at + n, k);
 }
 
-// A record put in at a slot, with n records behind it, and their places raised by its value's length.
+// A record put in at a slot of `count`, and the places behind it raised by its value's length.
 fn insert_record(
     records: &mut [u8],
-    slot: usize,
-    n: usize,
+    slot: u32,
+    count: u32,
     id: u32,
     place: u32,
     key: &[u8],
     value: &[u8],
 )
-    requires { ⌜ (32 * slot + 32 + 32 * n ≤ length (now records)) × (length (now key) ≤ 16) × (length (now value) < 2 ^ 32) ⌝ }
-    ensures { λ _. ⌜ now (records .exit) ≡ raised (length (now (value .entry))) (slot + 1) n (put (32 * slot) (recordOf id place (pair (now (key .entry)) (now (value .entry))) ++ part (32 * slot) (32 * n) (now (records .entry))) (now (records .entry))) ⌝ }
+    requires { ⌜ CanRecord slot count (now key) (now value) (now records) ⌝ }
+    ensures { λ _.
+        ⌜ now (records .exit)
+        ≡ recordIn id place (pair (now (key .entry)) (now (value .entry))) slot (count - slot) (now (records .entry)) ⌝ }
 {
-    let at = 32 * slot;
-    move_up(records, at, 32 * n, at + 32);
+    let at = 32 * slot as usize;
+    move_up(records, at, 32 * (count - slot) as usize, at + 32);
     write_record(records, slot, id, place, key, value);
-    raise_places(records, slot + 1, n, value.len() as u32);
+    raise_places(records, slot + 1, count + 1, value.len() as u32);
 }
 
-// The record at a slot taken out, with n records behind it, after a number is added to their places.
-fn remove_record(records: &mut [u8], slot: usize, n: usize, by: u32)
-    requires { ⌜ 32 * slot + 32 + 32 * n ≤ length (now records) ⌝ }
-    ensures { λ _. ⌜ now (records .exit) ≡ put (32 * slot) (part (32 * slot + 32) (32 * n) (raised by (slot + 1) n (now (records .entry))) ++ zeros 32) (raised by (slot + 1) n (now (records .entry))) ⌝ }
+// The record at a slot of `count` taken out, after a number is added to the places behind it.
+fn remove_record(records: &mut [u8], slot: u32, count: u32, by: u32)
+    requires { ⌜ (slot < count) × (32 * count ≤ length (now records)) ⌝ }
+    ensures { λ _. ⌜ now (records .exit) ≡ recordOut by slot (count - (slot + 1)) (now (records .entry)) ⌝ }
 {
-    raise_places(records, slot + 1, n, by);
-    remove_value(records, 32 * slot, 32, 32 * n);
+    raise_places(records, slot + 1, count, by);
+    remove_value(
+        records,
+        32 * slot as usize,
+        32,
+        32 * (count - (slot + 1)) as usize,
+    );
 }
 
 // Where the value of a slot begins or, behind the last slot, would.
-fn place_for(records: &[u8], slot: usize, count: usize, total: u32) -> u32
+fn place_for(records: &[u8], slot: u32, count: u32, total: u32) -> u32
     requires { ⌜ 32 * count ≤ length (now records) ⌝ }
     ensures { λ r. ⌜ r ≡ placeFor (now (records .entry)) slot count total ⌝ }
 {
@@ -79,57 +86,69 @@ fn place_for(records: &[u8], slot: usize, count: usize, total: u32) -> u32
 pub fn insert(
     records: &mut [u8],
     values: &mut [u8],
-    h: Head,
+    id: u32,
+    count: u32,
     total: u32,
-    slot: usize,
+    slot: u32,
     key: &[u8],
     value: &[u8],
 )
-    requires { ⌜ CanInsert h total slot (now key) (now value) (now records) (now values) ⌝ }
-    ensures { λ _. ⌜ Shows h (inserted slot (pair (now (key .entry)) (now (value .entry))) (pairsIn (h .count) (now (records .entry)) (now (values .entry)))) (now (records .exit)) (now (values .exit)) ⌝ }
+    requires { ⌜ CanInsert id count total slot (now key) (now value) (now records) (now values) ⌝ }
+    ensures { λ _.
+        ⌜ Holds id (length (now (records .entry))) (length (now (values .entry)))
+        (inserted slot (pair (now (key .entry)) (now (value .entry))) (pairsIn count (now (records .entry)) (now (values .entry))))
+        (now (records .exit)) (now (values .exit)) ⌝ }
 {
-    let count = h.count as usize;
     let place = place_for(records, slot, count, total);
     insert_value(values, place as usize, (total - place) as usize, value);
-    insert_record(records, slot, count - slot, h.id, place, key, value);
+    insert_record(records, slot, count, id, place, key, value);
 }
 
-pub fn remove(records: &mut [u8], values: &mut [u8], h: Head, total: u32, slot: usize)
-    requires { ⌜ CanRemove h total slot (now records) (now values) ⌝ }
-    ensures { λ _. ⌜ Shows h (erased slot (pairsIn (h .count) (now (records .entry)) (now (values .entry)))) (now (records .exit)) (now (values .exit)) ⌝ }
+pub fn remove(records: &mut [u8], values: &mut [u8], id: u32, count: u32, total: u32, slot: u32)
+    requires { ⌜ CanRemove id count total slot (now records) (now values) ⌝ }
+    ensures { λ _.
+        ⌜ Holds id (length (now (records .entry))) (length (now (values .entry)))
+        (erased slot (pairsIn count (now (records .entry)) (now (values .entry))))
+        (now (records .exit)) (now (values .exit)) ⌝ }
 {
     let place = place_at(records, slot);
-    let len = length_at(records, slot);
+    let len = value_length_at(records, slot);
     remove_value(
         values,
         place as usize,
         len as usize,
         (total - place - len) as usize,
     );
-    let by = std::num::wrapping_sub_u32(0, len);
-    remove_record(records, slot, h.count as usize - slot - 1, by);
+    remove_record(records, slot, count, std::num::wrapping_sub_u32(0, len));
 }
 
 // The pair at a slot taken out, and another put in there.
 pub fn replace(
     records: &mut [u8],
     values: &mut [u8],
-    h: Head,
+    id: u32,
+    count: u32,
     total: u32,
-    slot: usize,
+    slot: u32,
     key: &[u8],
     value: &[u8],
 )
-    requires { ⌜ CanReplace h total slot (now key) (now value) (now records) (now values) ⌝ }
-    ensures { λ _. ⌜ Shows h (inserted slot (pair (now (key .entry)) (now (value .entry))) (erased slot (pairsIn (h .count) (now (records .entry)) (now (values .entry))))) (now (records .exit)) (now (values .exit)) ⌝ }
+    requires { ⌜ CanReplace id count total slot (now key) (now value) (now records) (now values) ⌝ }
+    ensures { λ _.
+        ⌜ Holds id (length (now (records .entry))) (length (now (values .entry)))
+        (inserted slot (pair (now (key .entry)) (now (value .entry))) (erased slot (pairsIn count (now (records .entry)) (now (values .entry)))))
+        (now (records .exit)) (now (values .exit)) ⌝ }
 {
-    let len = length_at(records, slot);
-    remove(records, values, h, total, slot);
-    let fewer = Head {
-        id: h.id,
-        index: h.index,
-        size: h.size,
-        count: h.count - 1,
-    };
-    insert(records, values, fewer, total - len, slot, key, value);
+    let len = value_length_at(records, slot);
+    remove(records, values, id, count, total, slot);
+    insert(
+        records,
+        values,
+        id,
+        count - 1,
+        total - len,
+        slot,
+        key,
+        value,
+    );
 }

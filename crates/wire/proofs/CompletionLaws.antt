@@ -1,13 +1,12 @@
 -- A completion that was written is read back. Assumes nothing.
 use mathlib.Core.Path.{_≡_, refl}
-use Prim.Native.Nat.{_%_, _^_, _<_}
+use Prim.Native.Nat.{_^_, _<_}
 use native.Mathlib.Omega.{arith}
 use lib.ListN.{length}
-use Rattle.octets.specs.Octets.{part, number, bytes}
+use Rattle.octets.specs.Octets.{part}
 use Rattle.octets.proofs.NumberLaws.{number-bytes}
 use Rattle.wire.specs.declared.completions.Completion.{Completion}
-use Rattle.wire.specs.Completion.{word, readCompletion, writeCompletion}
-use Rattle.wire.proofs.WordLaws.{unpacked}
+use Rattle.wire.specs.Completion.{word, phaseIn, statusIn, kindIn, readCompletion, writeCompletion}
 
 pub length-completion : (c : Completion) → length (writeCompletion c) ≡ 16
 unfolding writeCompletion
@@ -26,11 +25,6 @@ pub record Whole (c : Completion) : Type 0 where
 pub completion-back : (c : Completion) → Whole c → readCompletion (writeCompletion c) ≡ c
 unfolding readCompletion writeCompletion part
 completion-back c w =
-    let d : number (bytes 4 (c .dword0)) ≡ c .dword0 = number-bytes 4 (c .dword0) (w .dword0-in) in
-    let h : number (bytes 2 (c .head)) ≡ c .head = number-bytes 2 (c .head) (w .head-in) in
-    let q : number (bytes 2 (c .queue)) ≡ c .queue = number-bytes 2 (c .queue) (w .queue-in) in
-    let i : number (bytes 2 (c .cid)) ≡ c .cid = number-bytes 2 (c .cid) (w .cid-in) in
-    let n : number (bytes 2 (word c)) ≡ word c = number-bytes 2 (word c) (omega arith) in
-    let u = unpacked c (w .status-in) (w .kind-in) in
-    let p : c .phase % 2 ≡ c .phase = omega arith in
-    rw (d, h, q, i, n, u .0, u .1, u .2, p)
+    let u : (phaseIn (word c) ≡ c .phase) × (statusIn (word c) ≡ c .status) × (kindIn (word c) ≡ c .kind) = omega arith in
+    rw (number-bytes 4 (c .dword0) (w .dword0-in), number-bytes 2 (c .head) (w .head-in), number-bytes 2 (c .queue) (w .queue-in))
+    (rw (number-bytes 2 (c .cid) (w .cid-in), number-bytes 2 (word c) (omega arith), u .0, u .1, u .2))

@@ -4,7 +4,7 @@ use mathlib.Core.List.{List, [], _∷_, _++_}
 use Prim.Native.Nat.{ℕ, _%_, _^_, _≤_, _<_}
 use native.Mathlib.Omega.{arith}
 use lib.ListN.{length, length-append}
-use Rattle.octets.specs.Octets.{part, put, number, bytes, zeros}
+use Rattle.octets.specs.Octets.{part, put, bytes, zeros}
 use Rattle.octets.proofs.PartLaws.{each, part-each, length-part, part-whole, puts-whole}
 use Rattle.octets.proofs.NumberLaws.{number-bytes}
 use Rattle.wire.specs.declared.entries.Command.{Command}
@@ -12,9 +12,8 @@ use Rattle.wire.specs.Entry.{readCommand, frontOf, dwordsOf, writeComman
 
 pub key-puts : (e : List ℕ) → length e ≡ 64 → put 8 (part 56 8 e) (put 0 (part 8 8 e) (zeros 16)) ≡ part 8 8 e ++ part 56 8 e
 key-puts e h =
-    let a : length (part 8 8 e) ≡ 8 = length-part 8 8 e (omega arith) in
-    let b : length (part 56 8 e) ≡ 8 = length-part 56 8 e (omega arith) in
-    rw a at (puts-whole (part 8 8 e) (part 56 8 e ∷ []) (zeros 16) (simp length-append (omega arith)))
+    let a = length-part 8 8 e (omega arith) in
+    rw a at (puts-whole (part 8 8 e) (part 56 8 e ∷ []) (zeros 16) (simp length-append (omega (arith, length-part 56 8 e (omega arith)))))
 
 module _ (c : Command) (k : length (c .key) ≡ 16) where
   half : (i : ℕ) → i ≤ 8 → length (part i 8 (c .key)) ≡ 8
@@ -28,7 +27,8 @@ module _ (c : Command) (k : length (c .key) ≡ 16) where
       → put 56 (part 8 8 (c .key)) (put 40 (dwordsOf c) (put 16 (zeros 24) (put 8 (part 0 8 (c .key)) (put 0 (frontOf c) xs)))) ≡ writeCommand c
   unfolding writeCommand
   entry-puts xs h =
-      rw (half 0 (omega arith)) at (puts-whole (frontOf c) (part 0 8 (c .key) ∷ zeros 24 ∷ dwordsOf c ∷ part 8 8 (c .key) ∷ []) xs (length-command ∙ sym h))
+      let vs = part 0 8 (c .key) ∷ zeros 24 ∷ dwordsOf c ∷ part 8 8 (c .key) ∷ [] in
+      rw (half 0 (omega arith)) at (puts-whole (frontOf c) vs xs (length-command ∙ sym h))
 
 -- each field within its bytes
 pub record Sound (c : Command) : Type 0 where
@@ -45,8 +45,7 @@ pub command-back : (c : Command) → Sound c → readCommand (writeCommand c) �
 unfolding readCommand writeCommand part
 command-back c s =
     let f : c .fused % 4 ≡ c .fused = omega arith in
-    let i : number (bytes 2 (c .cid)) ≡ c .cid = number-bytes 2 (c .cid) (s .cid-in) in
-    let n : number (bytes 4 (c .nsid)) ≡ c .nsid = number-bytes 4 (c .nsid) (s .nsid-in) in
-    let a : number (bytes 4 (c .amount)) ≡ c .amount = number-bytes 4 (c .amount) (s .amount-in) in
-    let at : List ℕ → Command = λ k. record { opcode = c .opcode; fused = c .fused; cid = c .cid; nsid = c .nsid; key = k; len = c .len; options = c .options; amount = c .amount } in
-    subst (λ (k : List ℕ). readCommand (writeCommand (at k)) ≡ at k) (sixteen (c .key) (s .key-in)) (rw (f, i, n, a))
+    let at : List ℕ → Command =
+    λ k. record { opcode = c .opcode; fused = c .fused; cid = c .cid; nsid = c .nsid; key = k; len = c .len; options = c .options; amount = c .amount } in
+    subst (λ (k : List ℕ). readCommand (writeCommand (at k)) ≡ at k) (sixteen (c .key) (s .key-in))
+    (rw (f, number-bytes 2 (c .cid) (s .cid-in), number-bytes 4 (c .nsid) (s .nsid-in), number-bytes 4 (c .amount) (s .amount-in)))

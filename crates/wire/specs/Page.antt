@@ -5,7 +5,7 @@ use Prim.Native.Nat.{ℕ, zero, suc, _+_, _-_, _*_, _/_}
 use lib.Dec.{leb, ltb, eqb}
 use lib.ListN.{length, drop}
 use Rattle.octets.specs.Octets.{part, number, bytes, zeros, allZero}
-use Rattle.octets.specs.Keys.{Key, below}
+use Rattle.octets.specs.Keys.{Key, below, from}
 use Rattle.octets.specs.Tests.{Row, row, firstOf}
 use Rattle.wire.specs.declared.pages.PageEntry.{PageEntry}
 
@@ -32,6 +32,10 @@ fits r [] = []
 fits r (k ∷ ks) =
     let size = entrySize (length k) in
     cond (leb size r) (k ∷ fits (r - size) ks) []
+
+-- the keys that a List from k shows, with n the host buffer size: those that fit behind the count
+abbrev pub shown : ℕ → Key → List Key → List Key
+shown n k ks = fits (n - 4) (from k ks)
 
 -- ---- reading
 

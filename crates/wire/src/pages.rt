@@ -1,13 +1,13 @@
 // The entries of a List page.
-use octets::runs;
 use octets::words;
 ghost use mathlib.Core.Path.{_≡_};
-ghost use Prim.Native.Nat.{_≤_};
-ghost use lib.ListN.{length};
-ghost use Rattle.octets.specs.Octets.{put};
+ghost use mathlib.Core.Bool.{true};
+ghost use Prim.Native.Nat.{_+_, _%_, _≤_};
+ghost use lib.ListN.{length, take, drop};
+ghost use Rattle.octets.specs.Octets.{part, put, allZero};
 ghost use Rattle.wire.specs.Page.{entrySize, pageEntry};
 
-// "... a 2-byte length, the key, and zero bytes until the entry's own length is a multiple of 4."
+// Two bytes of length and the key, rounded up to whole words.
 pub fn page_entry_size(n: usize) -> usize
     requires { ⌜ n ≤ 65535 ⌝ }
     ensures { λ r. ⌜ r ≡ entrySize n ⌝ }
@@ -15,16 +15,50 @@ pub fn page_entry_size(n: usize) -> usize
     (n + 5) / 4 * 4
 }
 
-// "Each entry is written into what remains of the buffer."
-pub fn write_page_entry(rest: &mut [u8], key: &[u8])
-    requires { ⌜ (length (now key) ≤ 16) × (entrySize (length (now key)) ≤ length (now rest)) ⌝ }
-    ensures { λ _. ⌜ now (rest .exit) ≡ put 0 (pageEntry (now (key .entry))) (now (rest .entry)) ⌝ }
+// An entry is written word by word, each straight from the record and only where the entry reaches it, so that the compiler needs
+// no copy of the key and no loop over its bytes. A key of n bytes stands in sixteen with zeros behind it: the word that holds its
+// end holds the entry's zeros too.
+
+// The length, and the key's first two bytes.
+fn write_first(rest: &mut [u8], field: &[u8], n: usize)
+    requires { ⌜ (length (now field) ≡ 16) × (n ≤ 16) × (allZero (drop n (now field)) ≡ true) × (entrySize n ≤ length (now rest)) ⌝ }
+    ensures { λ _. ⌜ now (rest .exit) ≡ put 0 (part 0 4 (pageEntry (take n (now (field .entry))))) (now (rest .entry)) ⌝ }
 {
-    let n = key.len();
-    let end = 2 + n;
     words::write16(rest, 0, n as u16);
-    runs::copy_at(key, rest, 2);
-    runs::clear(rest, end, page_entry_size(n) - end);
+    words::write16(rest, 2, words::read16(field, 0));
+}
+
+// Four bytes of the key, from an index on.
+fn write_word(rest: &mut [u8], field: &[u8], n: usize, from: usize)
+    requires { ⌜ (length (now field) ≡ 16) × (n ≤ 16) × (allZero (drop n (now field)) ≡ true) × (entrySize n ≤ length (now rest))
+        × (from ≤ 12) × (from % 4 ≡ 2) ⌝ }
+    ensures { λ _. ⌜ now (rest .exit) ≡ put (2 + from) (part (2 + from) 4 (pageEntry (take n (now (field .entry))))) (now (rest .entry)) ⌝ }
+{
+    if from < n {
+        words::write32(rest, 2 + from, words::read32(field, from));
+    }
+}
+
+// The key's last two bytes; the zeros behind them stand in no record.
+fn write_last(rest: &mut [u8], field: &[u8], n: usize)
+    requires { ⌜ (length (now field) ≡ 16) × (n ≤ 16) × (allZero (drop n (now field)) ≡ true) × (entrySize n ≤ length (now rest)) ⌝ }
+    ensures { λ _. ⌜ now (rest .exit) ≡ put 16 (part 16 4 (pageEntry (take n (now (field .entry))))) (now (rest .entry)) ⌝ }
+{
+    if 14 < n {
+        words::write16(rest, 16, words::read16(field, 14));
+        words::write16(rest, 18, 0);
+    }
+}
+
+pub fn write_page_entry(rest: &mut [u8], field: &[u8], n: usize)
+    requires { ⌜ (length (now field) ≡ 16) × (n ≤ 16) × (allZero (drop n (now field)) ≡ true) × (entrySize n ≤ length (now rest)) ⌝ }
+    ensures { λ _. ⌜ now (rest .exit) ≡ put 0 (pageEntry (take n (now (field .entry)))) (now (rest .entry)) ⌝ }
+{
+    write_first(rest, field, n);
+    write_word(rest, field, n, 2);
+    write_word(rest, field, n, 6);
+    write_word(rest, field, n, 10);
+    write_last(rest, field, n);
 }
 
 // What a host reads of an entry: a house number, and where that is 0 the length of the entry's key.

@@ -12,15 +12,14 @@ use Rattle.bench.proofs.serve.Tie as tie
 taken : (n m : ℕ) (xs : List ℕ) → n ≤ m → length (take n xs) ≤ m
 taken n m xs h = rw length-take (omega arith)
 
+slice-aggregate-answer : tie.Need-slice-aggregate-answer
+slice-aggregate-answer c = sym (length-take-le _ _ (c .before .room-of .ensures .1))
+
+answer-requires : tie.Need-answer-requires
+answer-requires c κs = taken _ 4096 _ (c .before .before .before .room-of .ensures .1)
+
 pub serve-spec : {M : Type 1} → statement M
 serve-spec =
     tie.close
-    (tie.spec
-    (λ c κs. search needs)
-    (λ c κs. search needs)
-    (λ c. search needs)
-    (λ c. sym (length-take-le _ _ (c .before .room-of .ensures .1)))
-    (λ c κs. taken _ 4096 _ (c .before .before .before .room-of .ensures .1))
-    (λ c. search needs)
-    (λ c. search needs)
-    (λ c. search needs))
+    (tie.spec (λ c κs. search needs) (λ c κs. search needs) (λ c. search needs) slice-aggregate-answer answer-requires
+    (λ c. search needs) (λ c. search needs) (λ c. search needs))

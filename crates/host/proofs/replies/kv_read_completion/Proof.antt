@@ -5,11 +5,13 @@ use Rattle.host.specs.Reply.{numbered, reply}
 use Rattle.host.proofs.replies.kv_read_completion.Statement.{statement}
 use Rattle.host.proofs.replies.kv_read_completion.Tie as tie
 
-pub kv-read-completion-spec : {M : Type 1} → statement M
+returns : tie.Need-returns
 unfolding reply
-kv-read-completion-spec =
-    tie.close
-    (tie.spec
-    (λ c. simp (ne-eqb _ _ (c .if1 .taken)))
-    (λ c κs. search needs)
-    (λ c. simp (eq-eqb _ _ (c .before .if1 .left)) (ap (numbered 0) (c .read-completion .ensures))))
+returns c = simp (ne-eqb _ _ (c .if1 .taken))
+
+returns-2 : tie.Need-returns-2
+unfolding reply
+returns-2 c = simp (eq-eqb _ _ (c .before .if1 .left)) (ap (numbered 0) (c .read-completion .ensures))
+
+pub kv-read-completion-spec : {M : Type 1} → statement M
+kv-read-completion-spec = tie.close (tie.spec returns (λ c κs. search needs) returns-2)

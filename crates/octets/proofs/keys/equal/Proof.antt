@@ -3,4 +3,4 @@ use Rattle.octets.proofs.keys.equal.Statement.{statement}
 use Rattle.octets.proofs.keys.equal.Tie as tie
 
 pub equal-spec : {M : Type 1} → statement M
-equal-spec = tie.close (tie.spec (λ c. let s = c .before .before .before .before .before .before .args in equal-wide (s .a) (s .b)))
+equal-spec = tie.close (tie.spec (λ c. search equal-wide))

@@ -1,6 +1,7 @@
 use borrow.Author.Needs.{needs}
 use borrow.Author.Tests.{lt-ltb, le-ltb}
 use Rattle.octets.specs.Keys.{clearWide}
+use Rattle.octets.proofs.ClearLaws.{clear-low}
 use Rattle.octets.proofs.keys.is_clear.Statement.{statement}
 use Rattle.octets.proofs.keys.is_clear.Tie as tie
 
@@ -8,11 +9,7 @@ pub is-clear-spec : {M : Type 1} → statement M
 unfolding clearWide
 is-clear-spec =
     tie.close
-    (tie.spec
-    (λ c. search needs)
-    (λ c. search needs)
-    (λ c. rw (lt-ltb _ 8 (c .before .before .before .if1 .taken)))
-    (λ c. search needs)
-    (λ c. search needs)
-    (λ c. rw (le-ltb _ 8 (c .before .before .before .before .if1 .left), lt-ltb _ 16 (c .before .before .if2 .taken)))
-    (λ c. rw (le-ltb _ 8 (c .before .before .if1 .left), le-ltb _ 16 (c .if2 .left))))
+    (tie.spec (λ c. search needs) (λ c. search needs) (λ c. rw (lt-ltb _ 8 (c .before .before .before .if1 .taken)))
+    (λ c. clear-low (c .before .before .before .before .args .w) (c .before .before .if1 .left) (c .if2 .taken)) (λ c. search needs) (λ c. search needs)
+    (λ c. rw (le-ltb _ 8 (c .before .before .before .before .before .before .if1 .left), lt-ltb _ 16 (c .before .before .if3 .taken)))
+    (λ c. rw (le-ltb _ 8 (c .before .before .before .before .if1 .left), le-ltb _ 16 (c .if3 .left))))

@@ -1,22 +1,20 @@
-use Rattle.octets.proofs.WideLaws.{less-high, less-low, less-len}
+use borrow.Author.Tests.{eq-eqb, ne-eqb}
+use Rattle.octets.proofs.WideLaws.{less-wide}
 use Rattle.octets.proofs.keys.less.Statement.{statement}
 use Rattle.octets.proofs.keys.less.Tie as tie
 
+returns : tie.Need-returns
+returns c = rw (less-wide, ne-eqb _ _ (c .before .before .if1 .taken))
+
+returns-2 : tie.Need-returns-2
+returns-2 c =
+    let l = c .before .before in
+    rw (less-wide, eq-eqb _ _ (l .before .before .before .if1 .left), ne-eqb _ _ (l .if2 .taken))
+
+returns-3 : tie.Need-returns-3
+returns-3 c =
+    let l = c .before .before in
+    rw (less-wide, eq-eqb _ _ (l .before .before .before .if1 .left), eq-eqb _ _ (l .if2 .left))
+
 pub less-spec : {M : Type 1} → statement M
-less-spec =
-    tie.close
-    (tie.spec
-    (λ c.
-    let i = c .before .before in
-    let s = i .before .before .before .args in
-    less-high (s .a) (s .b) (i .if1 .taken))
-    (λ c.
-    let l = c .before .before in
-    let i = l .before .before .before in
-    let s = i .before .before .before .args in
-    less-low (s .a) (s .b) (i .if1 .left) (l .if2 .taken))
-    (λ c.
-    let l = c .before .before in
-    let i = l .before .before .before in
-    let s = i .before .before .before .args in
-    less-len (s .a) (s .b) (i .if1 .left) (l .if2 .left)))
+less-spec = tie.close (tie.spec returns returns-2 returns-3)

@@ -6,15 +6,13 @@ use Rattle.octets.proofs.PartLaws.{part-inside}
 use Rattle.octets.proofs.keys.widen.Statement.{statement}
 use Rattle.octets.proofs.keys.widen.Tie as tie
 
-pub widen-spec : {M : Type 1} → statement M
+returns : tie.Need-returns
 unfolding wideOf
-widen-spec =
-    tie.close
-    (tie.spec
-    (λ c κs. search needs)
-    (λ c. search needs)
-    (λ c κs. search needs)
-    (λ c.
+returns c =
     let a = c .before .before .before .args in
-    let part-of = part-inside (a .at) 16 in
-    rw (rw add-zero at (part-of 0 8 (a .s .now) (omega arith)), part-of 8 8 (a .s .now) (omega arith), c .before .read-big .ensures, c .read-big2 .ensures)))
+    let high = part-inside (a .at) 16 0 8 (a .s .now) (omega arith) in
+    let low = part-inside (a .at) 16 8 8 (a .s .now) (omega arith) in
+    rw (rw add-zero at high, low, c .before .read-big .ensures, c .read-big2 .ensures)
+
+pub widen-spec : {M : Type 1} → statement M
+widen-spec = tie.close (tie.spec (λ c κs. search needs) (λ c. search needs) (λ c κs. search needs) returns)

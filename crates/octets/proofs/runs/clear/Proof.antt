@@ -1,8 +1,9 @@
 use Prim.Native.Nat.{_-_}
-use mathlib.Core.Path.{refl, sym}
+use mathlib.Core.Path.{refl}
 use native.Mathlib.Omega.{arith}
 use lib.ListN.{replicate, length-replicate, getD-replicate}
-use Rattle.octets.proofs.LoopLaws.{Forward, forward-none, forward-more, forward-done}
+use borrow.Author.Needs.{needs}
+use Rattle.octets.proofs.runs.Loops.{Forward, forward-none, forward-more, forward-done}
 use Rattle.octets.proofs.runs.clear.Statement.{statement}
 use Rattle.octets.proofs.runs.clear.Tie as tie
 
@@ -15,14 +16,6 @@ abbrev μ-loop : tie.MeasureT-loop
 pub clear-spec : {M : Type 1} → statement M
 clear-spec =
     tie.close
-    (tie.spec
-    Inv-loop
-    μ-loop
-    (λ c. forward-none (length-replicate _ 0) (omega arith))
-    (λ c. omega arith)
-    (λ c. omega arith)
-    (λ c. omega arith)
-    (λ c. omega arith)
-    (λ c. forward-more _ _ (c .before .loop .inv) (omega arith) refl (λ h. sym (getD-replicate _ _ 0 0 h)))
-    (λ c. c .before .loop .inv .same)
-    (λ c. forward-done (c .before .loop .inv) (omega arith)))
+    (tie.spec Inv-loop μ-loop (λ c. forward-none (length-replicate _ 0) (omega arith)) (λ c. omega arith) (λ c. omega arith) (λ c. omega arith)
+    (λ c. omega arith) (λ c. forward-more _ _ (c .before .loop .inv) (omega arith) refl (λ h. rw getD-replicate))
+    (λ c. search needs) (λ c. search forward-done))

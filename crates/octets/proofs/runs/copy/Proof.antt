@@ -2,7 +2,8 @@ use Prim.Native.Nat.{_-_}
 use mathlib.Core.Path.{refl}
 use native.Mathlib.Omega.{arith}
 use lib.ListN.{length}
-use Rattle.octets.proofs.LoopLaws.{Forward, forward-none, forward-more, forward-done}
+use borrow.Author.Needs.{needs}
+use Rattle.octets.proofs.runs.Loops.{Forward, forward-none, forward-more, forward-done}
 use Rattle.octets.proofs.runs.copy.Statement.{statement}
 use Rattle.octets.proofs.runs.copy.Tie as tie
 
@@ -15,14 +16,5 @@ abbrev μ-loop : tie.MeasureT-loop
 pub copy-spec : {M : Type 1} → statement M
 copy-spec =
     tie.close
-    (tie.spec
-    Inv-loop
-    μ-loop
-    (λ c. forward-none refl (omega arith))
-    (λ c. omega arith)
-    (λ c. omega arith)
-    (λ c. omega arith)
-    (λ c. omega arith)
-    (λ c. forward-more _ _ (c .before .before .loop .inv) (omega arith) (omega arith) (λ h. refl))
-    (λ c. c .before .loop .inv .same)
-    (λ c. forward-done (c .before .loop .inv) (omega arith)))
+    (tie.spec Inv-loop μ-loop (λ c. forward-none refl (omega arith)) (λ c. omega arith) (λ c. omega arith) (λ c. omega arith) (λ c. omega arith)
+    (λ c. forward-more _ _ (c .before .before .loop .inv) (omega arith) (omega arith) (λ h. refl)) (λ c. search needs) (λ c. search forward-done))

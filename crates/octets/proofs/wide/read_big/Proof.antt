@@ -6,27 +6,15 @@ use Rattle.octets.proofs.PartLaws.{part-each}
 use Rattle.octets.proofs.wide.read_big.Statement.{statement}
 use Rattle.octets.proofs.wide.read_big.Tie as tie
 
-pub read-big-spec : {M : Type 1} → statement M
+returns : tie.Need-returns
 unfolding big
+returns c =
+    let h = c .before .before .before .before .before .before .before .before .before .before .pre in
+    rw (part-each 8) (omega (arith, simp towards-suc at (c .big64 .ensures)))
+
+pub read-big-spec : {M : Type 1} → statement M
 read-big-spec =
     tie.close
-    (tie.spec
-    (λ c. search needs)
-    (λ c. search needs)
-    (λ c. search needs)
-    (λ c. search needs)
-    (λ c. search needs)
-    (λ c. search needs)
-    (λ c. search needs)
-    (λ c. search needs)
-    (λ c. search needs)
-    (λ c. search needs)
-    (λ c. search needs)
-    (λ c. search needs)
-    (λ c. search needs)
-    (λ c. search needs)
-    (λ c. search needs)
-    (λ c κs. search needs)
-    (λ c.
-    let h = c .before .before .before .before .before .before .before .before .before .before .pre in
-    rw (part-each 8) (omega (arith, simp towards-suc at (c .big64 .ensures)))))
+    (tie.spec (λ c. search needs) (λ c. search needs) (λ c. search needs) (λ c. search needs) (λ c. search needs) (λ c. search needs) (λ c. search needs)
+    (λ c. search needs) (λ c. search needs) (λ c. search needs) (λ c. search needs) (λ c. search needs) (λ c. search needs) (λ c. search needs)
+    (λ c. search needs) (λ c κs. search needs) returns)

@@ -1,8 +1,8 @@
-use native.Mathlib.Omega.{arith}
-use Rattle.octets.specs.Octets.{number}
 use native.Mathlib.Numerals.{towards-suc}
-use Rattle.octets.proofs.PartLaws.{part-each}
+use native.Mathlib.Omega.{arith}
 use borrow.Author.Needs.{needs}
+use Rattle.octets.specs.Octets.{number}
+use Rattle.octets.proofs.PartLaws.{part-each}
 use Rattle.octets.proofs.words.read16.Statement.{statement}
 use Rattle.octets.proofs.words.read16.Tie as tie
 
@@ -10,9 +10,5 @@ pub read16-spec : {M : Type 1} → statement M
 unfolding number
 read16-spec =
     tie.close
-    (tie.spec
-    (λ c. search needs)
-    (λ c. search needs)
-    (λ c. search needs)
-    (λ c κs. search needs)
+    (tie.spec (λ c. search needs) (λ c. search needs) (λ c. search needs) (λ c κs. search needs)
     (λ c. let h = c .before .before .before .before .pre in rw (part-each 2) (omega (arith, simp towards-suc at (c .number16 .ensures)))))

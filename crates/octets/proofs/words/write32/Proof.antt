@@ -1,25 +1,17 @@
 use native.Mathlib.Numerals.{towards-suc}
 use native.Mathlib.Omega.{arith}
 use lib.ListN.{length-set}
-use Rattle.octets.proofs.PartLaws.{sets-put}
 use borrow.Author.Needs.{needs}
+use Rattle.octets.proofs.PartLaws.{sets-put}
 use Rattle.octets.proofs.words.write32.Statement.{statement}
 use Rattle.octets.proofs.words.write32.Tie as tie
+
+returns : tie.Need-returns
+returns c = simp towards-suc (sets-put (c .args .at) _ (c .args .s .now) (omega arith))
 
 pub write32-spec : {M : Type 1} → statement M
 write32-spec =
     tie.close
-    (tie.spec
-    (λ c. search needs)
-    (λ c. search needs)
-    (λ c. search needs)
-    (λ c. search needs)
-    (λ c. simp length-set (omega arith))
-    (λ c. search needs)
-    (λ c. search needs)
-    (λ c. simp length-set (omega arith))
-    (λ c. search needs)
-    (λ c. search needs)
-    (λ c. simp length-set (omega arith))
-    (λ c. search needs)
-    (λ c. simp towards-suc (sets-put (c .args .at) _ (c .args .s .now) (omega arith))))
+    (tie.spec (λ c. search needs) (λ c. search needs) (λ c. search needs) (λ c. search needs) (λ c. simp length-set (omega arith))
+    (λ c. search needs) (λ c. search needs) (λ c. simp length-set (omega arith))
+    (λ c. search needs) (λ c. search needs) (λ c. simp length-set (omega arith)) (λ c. search needs) returns)

@@ -1,3 +1,4 @@
+use Prim.Native.Nat.{_*_}
 use native.Mathlib.Nat.{add-zero}
 use borrow.Author.Needs.{needs}
 use Rattle.octets.proofs.PartLaws.{part-drop}
@@ -5,22 +6,17 @@ use Rattle.store.specs.Checks.{slotIn}
 use Rattle.store.proofs.checks.slot_at.Statement.{statement}
 use Rattle.store.proofs.checks.slot_at.Tie as tie
 
-pub slot-at-spec : {M : Type 1} → statement M
+returns : tie.Need-returns
 unfolding slotIn
+returns c =
+    let v = c .before in
+    let p = v .before in
+    let w = p .before in
+    let a = w .before .before .before .args in
+    rw (c .owner-at .ensures, v .value-length-at .ensures, p .place-at .ensures, w .widen .ensures, w .before .key-length-at .ensures)
+    (rw (part-drop (32 * a .slot) 0 16 (a .records .now), add-zero))
+
+pub slot-at-spec : {M : Type 1} → statement M
 slot-at-spec =
-    tie.close
-    (tie.spec
-    (λ c. search needs)
-    (λ c κs. search needs)
-    (λ c. search needs)
-    (λ c κs. search needs)
-    (λ c. search needs)
-    (λ c κs. search needs)
-    (λ c. search needs)
-    (λ c κs. search needs)
-    (λ c. search needs)
-    (λ c κs. search needs)
-    (λ c.
-    let r2 = c .before .before in
-    let w = r2 .before in
-    simp (part-drop, add-zero) (rw (c .read324 .ensures, c .before .read323 .ensures, r2 .read322 .ensures, w .widen .ensures, w .before .read32 .ensures))))
+    tie.close (tie.spec (λ c κs. search needs) (λ c. search needs) (λ c. search needs) (λ c κs. search needs) (λ c κs. search needs)
+    (λ c κs. search needs) (λ c κs. search needs) returns)

@@ -1,55 +1,67 @@
+use mathlib.Core.Path.{sym, _∙_}
 use Prim.Native.Nat.{_-_}
 use native.Mathlib.Omega.{arith}
-use mir.Syntax.{w8}
 use lib.ListN.{take}
+use mir.Syntax.{w8}
 use borrow.Author.Needs.{needs, elem-fits}
 use Rattle.octets.specs.Keys.{isLess, isEqual}
 use Rattle.octets.proofs.NumberLaws.{Bytes}
 use Rattle.octets.proofs.WideLaws.{Widened, widened-take}
-use Rattle.store.proofs.FindLaws.{tested, Halved, halved-none, halved-up, halved-down, halved-found, halved-past}
+use Rattle.store.proofs.finds.Halves.{tested, Halved, halved-none, halved-up, halved-down, halved-found, halved-past}
 use Rattle.store.proofs.finds.find.Statement.{statement}
 use Rattle.store.proofs.finds.find.Tie as tie
 
 abbrev Inv-loop : tie.InvT-loop
-Inv-loop records count len wanted low₀ high₀ low high = Halved count records wanted low high
+Inv-loop records count key length len wanted low₀ high₀ low high = Halved count records wanted low high
 
 abbrev μ-loop : tie.MeasureT-loop
-μ-loop records count len wanted low₀ high₀ low high = high - low
+μ-loop records count key length len wanted low₀ high₀ low high = high - low
 
 bytes : (c : tie.After-shared-slice-known Inv-loop μ-loop) → Bytes (c .before .args .records .now)
 bytes c = λ i l. c .shared-slice-known .given i .fits
 
-key : (c : tie.After-wide-key Inv-loop μ-loop) → Widened (c .wide-key .result) (take (c .before .before .args .len) (c .before .before .args .key))
-key c =
-    let a = c .before .before .args in
-    let g = c .before .before .good .1 .1 .0 in
-    widened-take (a .len) (a .key) (c .wide-key .result) (λ i l. elem-fits w8 w8 (a .key) (g .0) i (g .1 .1) tt .fits) (g .1 .0 .1) (omega arith) (c .wide-key .ensures)
+-- what is looked for is the key that was given
+wanted : (c : tie.After-wide-key Inv-loop μ-loop)
+    → Widened (c .wide-key .result) (take (c .before .smaller .result) (c .before .before .before .args .key))
+wanted c =
+    let s = c .before .before .before in
+    let g = s .good .1 .1 .0 in
+    widened-take (c .before .smaller .result) (s .args .key) _ (λ i l. elem-fits w8 w8 (s .args .key) (g .0) i (g .1 .1) tt .fits) (g .1 .0 .1)
+    (omega arith) (c .wide-key .ensures)
+
+loop-again : tie.Need-loop-again Inv-loop μ-loop
+loop-again c =
+    let w = c .before .before in
+    let l = w .before .before in
+    let b = l .before .before .before in
+    let t = tested isLess _ (w .wide-at .ensures) (c .before .less .ensures) in
+    halved-up (b .before .pre) (bytes b) _ (l .loop .inv) (sym t ∙ c .if1 .taken) (omega arith)
+
+loop-again-2 : tie.Need-loop-again-2 Inv-loop μ-loop
+loop-again-2 c =
+    let w = c .before .before in
+    let l = w .before .before in
+    let b = l .before .before .before in
+    let t = tested isLess _ (w .wide-at .ensures) (c .before .less .ensures) in
+    halved-down (b .before .pre) (bytes b) _ (l .loop .inv) (sym t ∙ c .if1 .left) (omega arith)
+
+returns : tie.Need-returns Inv-loop μ-loop
+returns c =
+    let w = c .before in
+    let l = w .before .before .before in
+    let k = l .before in
+    let b = k .before .before in
+    halved-found (b .before .pre) (bytes b) _ _ _ (l .loop .inv) (k .before .smaller .ensures) (wanted k)
+    (tested isEqual _ (w .wide-at2 .ensures) (c .equal .ensures)) (omega arith) (omega arith)
+
+returns-2 : tie.Need-returns-2 Inv-loop μ-loop
+returns-2 c =
+    let l = c .before .before in
+    let k = l .before in
+    halved-past _ _ (l .loop .inv) (k .before .smaller .ensures) (wanted k) (omega arith) (omega arith)
 
 pub find-spec : {M : Type 1} → statement M
 find-spec =
-    tie.close
-    (tie.spec
-    Inv-loop
-    μ-loop
-    (λ c κs. search needs)
-    (λ c. halved-none _ _ _)
-    (λ c. omega arith)
-    (λ c κs. omega arith)
-    (λ c κs. search needs)
-    (λ c. omega arith)
-    (λ c. omega arith)
-    (λ c.
-    let l = c .before .before .before .before in
-    halved-up (l .before .before .before .pre .0) (bytes (l .before .before)) _ _ (l .loop .inv) (tested isLess _ (c .before .before .wide-slot .ensures) (c .before .less .ensures)) (c .if1 .taken) (omega arith))
-    (λ c. omega arith)
-    (λ c.
-    let l = c .before .before .before .before in
-    halved-down (l .before .before .before .pre .0) (bytes (l .before .before)) _ _ (l .loop .inv) (tested isLess _ (c .before .before .wide-slot .ensures) (c .before .less .ensures)) (c .if1 .left) (omega arith))
-    (λ c κs. omega arith)
-    (λ c κs. search needs)
-    (λ c.
-    let l = c .before .before .before .before in
-    halved-found (l .before .before .before .pre .0) (bytes (l .before .before)) _ _ (l .loop .inv) (key (l .before)) (tested isEqual _ (c .before .wide-slot2 .ensures) (c .equal .ensures)) (omega arith) (omega arith))
-    (λ c.
-    let l = c .before .before in
-    halved-past _ (l .loop .inv) (key (l .before)) (omega arith) (omega arith)))
+    tie.close (tie.spec Inv-loop μ-loop (λ c κs. search needs) (λ c. omega arith) (λ c κs. omega arith) (λ c. halved-none _ _ _) (λ c. omega arith)
+    (λ c κs. omega arith) (λ c κs. search needs) (λ c. omega arith) (λ c. omega arith) loop-again (λ c. omega arith) loop-again-2 (λ c κs. omega arith)
+    (λ c κs. search needs) returns returns-2)

@@ -1,25 +1,25 @@
 use native.Mathlib.Omega.{arith}
 use borrow.Author.Needs.{needs}
-use Rattle.store.proofs.HeldLaws.{insert-known, insert-image}
+use Rattle.store.proofs.verbs.Images.{insert-bounds, insert-image}
 use Rattle.store.proofs.verbs.insert.Statement.{statement}
 use Rattle.store.proofs.verbs.insert.Tie as tie
 
-pub insert-spec : {M : Type 1} → statement M
-insert-spec =
-    tie.close
-    (tie.spec
-    (λ c. search needs)
-    (λ c κs. let f = insert-known _ _ _ _ _ _ _ (c .before .before .before .before .before .before .pre) in omega arith)
-    (λ c. search needs)
-    (λ c. let f = insert-known _ _ _ _ _ _ _ (c .before .before .before .before .before .before .before .before .pre) in omega arith)
-    (λ c. search needs)
-    (λ c κs. let f = insert-known _ _ _ _ _ _ _ (c .before .before .before .before .before .before .before .before .pre) in omega arith)
-    (λ c. search needs)
-    (λ c κs. let f = insert-known _ _ _ _ _ _ _ (c .before .before .before .before .before .before .before .before .before .before .before .before .pre) in omega arith)
-    (λ c. search needs)
-    (λ c. search needs)
-    (λ c.
+insert-record-requires : tie.Need-insert-record-requires
+insert-record-requires c κs =
+    let p = c .before .before .before .before .before .before .before .before .before .before .before .pre in
+    let b = insert-bounds p in
+    record { slot = p .slot; free = p .free; few = omega (arith, b .0 .few); key = p .key; value = omega (arith, p .fits, b .0 .small) }
+
+returns : tie.Need-returns
+returns c =
     let r = c .before .before in
     let v = r .before .before .before .before in
     let p = v .before .before in
-    insert-image _ _ _ _ _ _ _ (p .before .before .before .before .before .before .before .pre) _ _ _ (p .place-for .ensures) (v .insert-value .ensures) (r .insert-record .ensures)))
+    insert-image (p .before .before .before .before .before .before .pre) (p .place-for .ensures) (v .insert-value .ensures) (r .insert-record .ensures)
+
+pub insert-spec : {M : Type 1} → statement M
+insert-spec =
+    tie.close (tie.spec (λ c κs. search needs) (λ c. search needs)
+    (λ c. omega (arith, insert-bounds (c .before .before .before .before .before .before .before .pre))) (λ c. search needs)
+    (λ c κs. omega (arith, insert-bounds (c .before .before .before .before .before .before .before .pre))) insert-record-requires (λ c. search needs)
+    (λ c. search needs) returns)

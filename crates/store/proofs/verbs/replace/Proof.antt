@@ -1,24 +1,27 @@
 use native.Mathlib.Omega.{arith}
 use borrow.Author.Needs.{needs}
-use Rattle.store.proofs.ReplaceLaws.{replace-known, replace-can, replace-shows}
+use Rattle.store.proofs.verbs.Images.{remove-bounds, replace-can, replace-image}
 use Rattle.store.proofs.verbs.replace.Statement.{statement}
 use Rattle.store.proofs.verbs.replace.Tie as tie
 
+sub-insert-2 : tie.Need-sub-insert-2
+sub-insert-2 c =
+    let r = c .before .before .before .before .before .before in
+    omega (arith, remove-bounds (r .before .before .before .before .before .before .before .before .before .pre .removes))
+
+insert-requires : tie.Need-insert-requires
+insert-requires c κs =
+    let r = c .before .before .before .before .before .before in
+    let l = r .before .before .before in
+    replace-can (l .before .before .before .before .before .before .pre) (r .remove .ensures) _ (l .value-length-at .ensures)
+
+returns : tie.Need-returns
+returns c =
+    let i = c .before .before .before .before in
+    let r = i .before .before .before .before .before .before .before in
+    replace-image (r .before .before .before .before .before .before .before .before .before .pre) (r .remove .ensures) (i .insert .ensures)
+
 pub replace-spec : {M : Type 1} → statement M
 replace-spec =
-    tie.close
-    (tie.spec
-    (λ c κs. let f = replace-known _ _ _ _ _ _ _ (c .before .before .before .before .before .pre) in omega arith)
-    (λ c κs. search needs)
-    (λ c. search needs)
-    (λ c. let f = replace-known _ _ _ _ _ _ _ (c .before .before .before .before .before .before .before .before .before .before .before .before .before .before .before .before .pre) in omega arith)
-    (λ c κs.
-    let r = c .before .before .before .before .before .before .before in
-    let l = r .before .before .before in
-    replace-can _ _ _ _ _ _ _ (l .before .before .before .before .before .before .pre) _ _ (r .remove .ensures) _ (l .length-at .ensures))
-    (λ c. search needs)
-    (λ c. search needs)
-    (λ c.
-    let w = c .before .before .before .before in
-    let r = w .before .before .before .before .before .before .before .before in
-    replace-shows _ _ _ _ _ _ _ (r .before .before .before .before .before .before .before .before .before .pre) _ _ (r .remove .ensures) _ _ (w .insert .ensures)))
+    tie.close (tie.spec (λ c κs. omega (arith, remove-bounds (c .before .before .before .before .before .pre .removes))) (λ c κs. search needs)
+    (λ c. search needs) sub-insert-2 insert-requires (λ c. search needs) (λ c. search needs) returns)

@@ -1,27 +1,16 @@
-use mathlib.Core.Path.{_∙_}
 use mathlib.Core.List.{[], _∷_}
 use native.Mathlib.Omega.{arith}
 use borrow.Author.Needs.{needs}
 use Rattle.octets.specs.Octets.{bytes, zeros}
-use Rattle.octets.proofs.PartLaws.{put-on, puts-whole}
+use Rattle.octets.proofs.PartLaws.{puts-whole}
 use Rattle.wire.specs.Completion.{word, writeCompletion}
 use Rattle.wire.proofs.completions.write_completion.Statement.{statement}
 use Rattle.wire.proofs.completions.write_completion.Tie as tie
 
-pub write-completion-spec : {M : Type 1} → statement M
+-- w1 to w6: behind each write, the last of them first
+returns : tie.Need-returns
 unfolding writeCompletion
-write-completion-spec =
-    tie.close
-    (tie.spec
-    (λ c κs. search needs)
-    (λ c κs. search needs)
-    (λ c κs. search needs)
-    (λ c κs. search needs)
-    (λ c κs. search needs)
-    (λ c κs. search needs)
-    (λ c κs. search needs)
-    (λ c. search needs)
-    (λ c.
+returns c =
     let w6 = c .before .before in
     let w5 = w6 .before .before .before .before in
     let w4 = w5 .before .before .before .before in
@@ -30,7 +19,13 @@ write-completion-spec =
     let w1 = w2 .before .before .before .before in
     let p = w1 .before .before in
     let a = p .before .before .args in
-    let e3 = put-on _ _ (put-on _ _ (w1 .write32 .ensures) (w2 .write322 .ensures)) (w3 .write16 .ensures) in
-    let e5 = put-on _ _ (put-on _ _ e3 (w4 .write162 .ensures)) (w5 .write163 .ensures) in
-    put-on _ _ e5 (rw (p .pack .ensures) at (w6 .write164 .ensures))
-    ∙ puts-whole (bytes 4 (a .c .dword0)) (zeros 4 ∷ bytes 2 (a .c .head) ∷ bytes 2 (a .c .queue) ∷ bytes 2 (a .c .cid) ∷ bytes 2 (word (a .c)) ∷ []) (a .completion .now) (omega arith)))
+    let vs = zeros 4 ∷ bytes 2 (a .c .head) ∷ bytes 2 (a .c .queue) ∷ bytes 2 (a .c .cid) ∷ bytes 2 (word (a .c)) ∷ [] in
+    rw (w6 .write164 .ensures, p .pack .ensures, w5 .write163 .ensures, w4 .write162 .ensures)
+    (rw (w3 .write16 .ensures, w2 .write322 .ensures, w1 .write32 .ensures)
+    (puts-whole (bytes 4 (a .c .dword0)) vs (a .completion .now) (omega arith)))
+
+pub write-completion-spec : {M : Type 1} → statement M
+write-completion-spec =
+    tie.close
+    (tie.spec (λ c κs. search needs) (λ c κs. search needs) (λ c κs. search needs) (λ c κs. search needs)
+    (λ c κs. search needs) (λ c κs. search needs) (λ c κs. search needs) (λ c. search needs) returns)

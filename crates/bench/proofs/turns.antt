@@ -1,0 +1,2 @@
+-- `Lines` has what is printed, in one line or in two.
+mod Lines

@@ -1,0 +1,93 @@
+-- What a command has that no step refuses: a named fact for each row of the table, so that a new row moves none of them.
+-- Assumes nothing.
+use mathlib.Core.Path.{_≡_, refl}
+use mathlib.Core.Bool.{Bool, true, false, not, _&&_, _||_, and-true}
+use Prim.Native.Nat.{ℕ, _+_, _≤_, _<_}
+use native.Mathlib.Omega.{arith}
+use lib.Dec.{leb, ltb, eqb}
+use borrow.Author.Tests.{ltb-false, eqb-true, eqb-false, not-false}
+use Rattle.octets.specs.Tests.{firstOf}
+use Rattle.octets.proofs.TestLaws.{neither, none-holds, first-below}
+use Rattle.wire.specs.declared.entries.Command.{Command}
+use Rattle.wire.specs.Entry.{isStore, isRetrieve, isList, isDelete, isExist, known, ifPresent, ifAbsent}
+use Rattle.store.specs.Namespace.{Namespace}
+use Rattle.commands.specs.declared.steps.View.{View}
+use Rattle.commands.specs.Steps.{steps, viewOf, statusOf}
+
+pub record Passed (v : View) (c : Command) : Type 0 where
+  -- a
+  pub legal : v .legal ≡ true
+  -- b
+  pub opcode : known (c .opcode) ≡ true
+  -- c
+  pub fused : c .fused ≡ 0
+  -- d
+  pub same : c .nsid ≡ v .id
+  -- e
+  pub sixteen : c .len ≤ 16
+  -- f
+  pub short : c .len ≤ v .format .keymax
+  pub some : isList (c .opcode) ≡ false → 1 ≤ c .len
+  -- g
+  pub value : isStore (c .opcode) ≡ true → c .amount ≤ v .format .valuemax
+  pub counted : isList (c .opcode) ≡ true → 4 ≤ c .amount
+  -- h
+  pub lent : (isStore (c .opcode) || isRetrieve (c .opcode) || isList (c .opcode)) ≡ true → c .amount ≤ v .room
+  -- i
+  pub held : (isRetrieve (c .opcode) || isDelete (c .opcode) || isExist (c .opcode) || ifPresent c) ≡ true → v .held ≡ true
+  pub absent : ifAbsent c ≡ true → v .held ≡ false
+  -- j
+  pub slot : isStore (c .opcode) ≡ true → (not (v .held) && leb (v .format .maxkeys) (v .count)) ≡ false
+  pub room : isStore (c .opcode) ≡ true → v .used + c .len + c .amount ≤ v .size
+
+right-false : (a b : Bool) → (a && b) ≡ false → a ≡ true → b ≡ false
+right-false true b e h = e
+right-false false b e h = cc
+
+pub passed : (v : View) (c : Command) → firstOf (steps v c) ≡ 0 → Passed v c
+unfolding steps
+passed v c none =
+    let a = none-holds (steps v c) tt none in
+    let b = a .1 in
+    let cc = b .1 in
+    let d = cc .1 in
+    let e = d .1 in
+    let f = e .1 in
+    let g = f .1 in
+    let g2 = g .1 in
+    let h = g2 .1 in
+    let i = h .1 in
+    let i2 = i .1 in
+    let j = i2 .1 in
+    let key = neither (ltb (v .format .keymax) (c .len)) (eqb (c .len) 0 && not (isList (c .opcode))) (f .0) in
+    record {
+      legal = not-false (v .legal) (a .0);
+      opcode = not-false (known (c .opcode)) (b .0);
+      fused = eqb-true (c .fused) 0 (not-false _ (cc .0));
+      same = eqb-true (c .nsid) (v .id) (not-false _ (d .0));
+      sixteen = ltb-false 16 (c .len) (e .0);
+      short = ltb-false (v .format .keymax) (c .len) (key .0);
+      some = λ o. let z : eqb (c .len) 0 ≡ false = rw (o, and-true) at (key .1) in omega (arith, eqb-false);
+      value = λ o. ltb-false (v .format .valuemax) (c .amount) (right-false _ _ (g .0) o);
+      counted = λ o. ltb-false (c .amount) 4 (right-false _ _ (g2 .0) o);
+      lent = λ o. ltb-false (v .room) (c .amount) (right-false _ _ (h .0) o);
+      held = λ o. not-false (v .held) (right-false _ _ (i .0) o);
+      absent = right-false _ _ (i2 .0);
+      slot = λ o. neither slots room (right-false _ _ (j .0) o) .0;
+      room = λ o. ltb-false (v .size) (v .used + c .len + c .amount) (neither slots room (right-false _ _ (j .0) o) .1);
+    }
+  where
+    slots : Bool
+    slots = not (v .held) && leb (v .format .maxkeys) (v .count)
+
+    room : Bool
+    room = ltb (v .size) (v .used + c .len + c .amount)
+
+pub status-byte : (ok : Bool) (s : Namespace) (c : Command) (n : ℕ) → statusOf ok s c n < 256
+unfolding statusOf steps
+status-byte ok s c n = first-below 256 (steps (viewOf ok s c n) c) (omega arith) tt
+
+-- memory that is not legal is answered with 06h
+pub illegal : (s : Namespace) (c : Command) (n : ℕ) → statusOf false s c n ≡ 0x06
+unfolding statusOf steps
+illegal s c n = refl

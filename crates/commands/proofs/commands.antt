@@ -1,0 +1,2 @@
+-- What the table of steps sees.
+mod Seen

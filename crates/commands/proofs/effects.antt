@@ -1,0 +1,2 @@
+-- What each command may ask of the memory, and leaves.
+mod Effects

@@ -1,0 +1,2 @@
+-- The loop of `first_of`.
+mod Rows

@@ -1,0 +1,6 @@
+pub mod Steps
+pub mod Answer
+pub mod Formatting
+pub mod Command
+pub mod Ruled
+pub mod History

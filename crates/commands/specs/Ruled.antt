@@ -1,0 +1,24 @@
+-- What a command leans on that no step refused: memory checked, key looked up, table asked. Assumes nothing.
+use mathlib.Core.Path.{_≡_}
+use mathlib.Core.Bool.{true}
+use mathlib.Core.List.{List}
+use Prim.Native.Nat.{ℕ}
+use lib.ListN.{length}
+use Rattle.wire.specs.declared.entries.Command.{Command}
+use Rattle.wire.specs.Entry.{keyOf}
+use Rattle.store.specs.declared.finds.Found.{Found}
+use Rattle.store.specs.Maps.{keys}
+use Rattle.store.specs.Finds.{foundKey}
+use Rattle.memory.specs.declared.checks.Checked.{Checked}
+use Rattle.memory.specs.Memory.{memory, namespaceOf, pairsOf}
+use Rattle.memory.specs.Checks.{Legal, Looked}
+use Rattle.commands.specs.Steps.{statusOf}
+
+-- n is the length of the data buffer, d and v are the two slices
+pub record Ruled (c : Command) (k : Checked) (f : Found) (n : ℕ) (d v : List ℕ) : Type 0 where
+  pub legal : Legal k d v
+  pub looked : Looked f (keys (pairsOf (memory d v)))
+  pub key : foundKey f ≡ keyOf c
+  pub sixteen : length (f .key) ≡ 16
+  pub given : length (c .key) ≡ 16
+  pub status : statusOf true (namespaceOf (memory d v)) c n ≡ 0

@@ -1,0 +1,2 @@
+-- `Loop` has the invariant of the loop over a page's entries.
+mod Loop

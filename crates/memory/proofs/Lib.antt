@@ -1,0 +1,4 @@
+-- The laws of `specs/`, for the proofs of this crate and of those above it.
+pub mod FormatLaws
+pub mod ImageLaws
+pub mod LegalLaws

@@ -1,0 +1,3 @@
+-- The empty image written, and a pair put or erased.
+mod Empty
+pub mod Pairs

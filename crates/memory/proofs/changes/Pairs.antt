@@ -1,0 +1,203 @@
+-- A pair put or erased: the verbs may be called on the parts that are lent, and what comes back is the image of the new map.
+-- Assumes nothing.
+use mathlib.Core.Path.{_≡_, refl, sym, ap, ap₂, _∙_}
+use mathlib.Core.Bool.{true, false}
+use mathlib.Core.List.{List, _++_, append-assoc}
+use Prim.Native.Nat.{ℕ, _+_, _-_, _*_, _≤_, _<_}
+use native.Mathlib.Omega.{arith}
+use lib.ListN.{length, take, drop, length-take}
+use lib.Seq.{drop-drop}
+use borrow.Rule.Slice.PartMut.{putMid}
+use Rattle.octets.specs.Octets.{put, bytes, zeros}
+use Rattle.octets.proofs.PartLaws.{put-seam, put-front}
+use Rattle.store.specs.declared.finds.Found.{Found}
+use Rattle.store.specs.Formats.{slots}
+use Rattle.store.specs.Maps.{Pair, pair, keys, values, insert, erase}
+use Rattle.store.specs.Namespace.{Namespace, withPairs}
+use Rattle.store.specs.Records.{pairsIn}
+use Rattle.store.specs.Parts.{Holds as Parts, inserted, erased}
+use Rattle.store.specs.Finds.{foundKey}
+use Rattle.store.specs.Verbs.{CanInsert, CanRemove, CanReplace}
+use Rattle.store.proofs.NamespaceLaws.{Within, within-true}
+use Rattle.store.proofs.CountLaws.{erase-within}
+use Rattle.store.proofs.PartsLaws.{values-used, records-long, values-long}
+use Rattle.store.proofs.SlotLaws.{value-length-at, length-inserted, length-erased, values-inserted, values-erased}
+use Rattle.store.proofs.RankLaws.{rank-le, rank-held, length-keys, insert-held, insert-new, erase-held}
+use Rattle.memory.specs.declared.checks.Checked.{Checked}
+use Rattle.memory.specs.Memory.{memory, needed, halfOf, labelOf, directoryHead, directoryOf, valuesOf, imageOver, imageWith, namespaceOf, pairsOf}
+use Rattle.memory.specs.Checks.{recordsAt, valuesAt, Legal, Looked, CanPut, CanErase}
+use Rattle.memory.proofs.ImageLaws.{length-directory, length-values, head-held}
+use Rattle.memory.proofs.LegalLaws.{holds-in, pairs-at, count-is, part-is, standing-in}
+
+-- ---- the whole slices out of a head, a records part and a values part
+
+-- another count in the head
+abbrev with-count : Namespace → ℕ → List ℕ
+with-count s c = directoryHead (record { id = s .id; index = s .index; size = s .size; count = c })
+
+counted : (s : Namespace) (n c : ℕ) (xs : List ℕ) → put 12 (bytes 4 c) (with-count s n ++ xs) ≡ with-count s c ++ xs
+unfolding halfOf
+counted s n c xs =
+    let front : List ℕ = bytes 4 (s .id) ++ bytes 4 (s .index) ++ bytes 4 (s .size) in
+    let split : (k : ℕ) → with-count s k ++ xs ≡ front ++ bytes 4 k ++ (zeros 16 ++ (zeros 32 ++ xs)) = λ k. simp append-assoc in
+    rw (split n, split c) (put-seam front (bytes 4 n) (zeros 16 ++ (zeros 32 ++ xs)) (bytes 4 c) refl)
+
+-- what a verb leaves of the parts that k names: r and w, the parts of m
+abbrev pub Left : Checked → List ℕ → List ℕ → List Pair → List ℕ → List ℕ → Type 0
+Left k d v m r w = Parts (k .label .id) (length (recordsAt k d)) (length (valuesAt k v)) m r w
+
+-- the directory and the value slice with r and w in the place of those parts
+abbrev pub directoryWith : Checked → List ℕ → List ℕ → List ℕ
+directoryWith k d r = putMid (k .start) (k .end - k .start) d r
+
+abbrev pub valuesWith : Checked → List ℕ → List ℕ → List ℕ
+valuesWith k v w = w ++ drop (k .label .size) v
+
+-- m is what a verb made of the map that stood there
+module _ {k : Checked} {d v : List ℕ} (g : Legal k d v) (f : List Pair → List Pair) {m : List Pair} {r w : List ℕ}
+    (p : Left k d v (f (pairsIn (k .label .count) (recordsAt k d) (valuesAt k v))) r w) (made : m ≡ f (pairsOf (memory d v)))
+    (limits : Within (withPairs (namespaceOf (memory d v)) m)) where
+  abbrev s : Namespace
+  s = namespaceOf (memory d v)
+
+  q : Parts (k .label .id) (32 * slots (k .label .index)) (k .label .size) m r w
+  q = rw made (rw (records-long (part-is g .holds), values-long (part-is g .holds), pairs-at g) at p)
+
+  -- h is the new head
+  directory-made : (h : List ℕ) → h ≡ directoryHead (labelOf (withPairs s m))
+      → h ++ (r ++ drop (k .end - k .start) (drop (k .start) d)) ≡ put 0 (directoryOf (withPairs s m)) d
+  unfolding directoryOf
+  directory-made h e =
+      let n = needed (s .index) in
+      let l : k .start + (k .end - k .start) ≡ n = rw (g .is) (omega arith) in
+      let i : k .label .id ≡ s .id = rw (g .is) in
+      let x : k .label .index ≡ s .index = rw (g .is) in
+      let j = length-directory (withPairs s m) limits in
+      rw (put-front (directoryOf (withPairs s m)) d, j, drop-drop (k .end - k .start) (k .start) d, l, e, q .records, i, x)
+      (sym (append-assoc (directoryHead (labelOf (withPairs s m))) _ (drop n d)))
+
+  values-made : valuesWith k v w ≡ put 0 (valuesOf (withPairs s m)) v
+  unfolding valuesOf
+  values-made =
+      let i : k .label .size ≡ s .size = rw (g .is) in
+      rw (put-front (valuesOf (withPairs s m)) v, length-values (withPairs s m) limits, q .values, i)
+
+  head-is : take (k .start) d ≡ directoryHead (labelOf s)
+  head-is = rw (g .is) (head-held (holds-in g))
+
+  same-count : length m ≡ length (s .pairs) → memory (directoryWith k d r) (valuesWith k v w) ≡ imageOver (withPairs s m) (memory d v)
+  same-count e = ap₂ memory (directory-made (take (k .start) d) (head-is ∙ ap (with-count s) (sym e))) values-made
+
+  new-count : {d′ : List ℕ} (c : ℕ) → d′ ≡ put 12 (bytes 4 c) (directoryWith k d r) → c ≡ length m
+      → memory d′ (valuesWith k v w) ≡ imageOver (withPairs s m) (memory d v)
+  new-count c e n =
+      ap₂ memory (e ∙ rw head-is (counted s (length (s .pairs)) c _) ∙ directory-made (with-count s c) (ap (with-count s) n)) values-made
+
+-- ---- the slot of a key
+
+module _ {f : Found} (m : List Pair) (l : Looked f (keys m)) where
+  slot-le : f .slot ≤ length m
+  slot-le = omega (arith, l .slot, rank-le (foundKey f) (keys m), length-keys m)
+
+  pub slot-lt : f .held ≡ true → f .slot < length m
+  slot-lt e = omega (arith, l .slot, rank-held (foundKey f) m (sym (l .held) ∙ e))
+
+-- ---- erase
+
+module _ {k : Checked} {f : Found} {d v : List ℕ} (c : CanErase k f d v) where
+  abbrev old : List Pair
+  old = pairsOf (memory d v)
+
+  inside : f .slot < length old
+  inside = slot-lt old (c .looked) (c .held)
+
+  pub can-remove : CanRemove (k .label .id) (k .label .count) (k .total) (f .slot) (recordsAt k d) (valuesAt k v)
+  can-remove = record { standing = standing-in (c .legal); slot = omega (arith, inside, count-is (c .legal)) }
+
+  pub erased-image : {d′ r w : List ℕ} → Left k d v (erased (f .slot) (pairsIn (k .label .count) (recordsAt k d) (valuesAt k v))) r w
+      → d′ ≡ put 12 (bytes 4 (k .label .count - 1)) (directoryWith k d r)
+      → memory d′ (valuesWith k v w) ≡ imageWith (erase (foundKey f)) (memory d v)
+  erased-image p e =
+      let is : erase (foundKey f) old ≡ erased (f .slot) old = rw (c .looked .slot) (erase-held (foundKey f) old (sym (c .looked .held) ∙ c .held)) in
+      new-count (c .legal) (erased (f .slot)) p is (erase-within (namespaceOf (memory d v)) (foundKey f) (holds-in (c .legal) .within)) _ e
+      (omega (arith, ap length is, length-erased (f .slot) old inside, count-is (c .legal)))
+
+-- ---- put
+
+module _ {k : Checked} {f : Found} {x d v : List ℕ} (c : CanPut k f x d v) where
+  abbrev m : List Pair
+  m = pairsOf (memory d v)
+
+  abbrev p : Pair
+  p = pair (foundKey f) x
+
+  limits : Within (withPairs (namespaceOf (memory d v)) (insert (foundKey f) x m))
+  limits = within-true _ (c .within)
+
+  key-short : length (foundKey f) ≤ 16
+  key-short = omega (arith, length-take (f .len) (f .key), c .looked .short)
+
+  -- the parts have room for the map with the pair
+  room-left : length (values (insert (foundKey f) x m)) ≤ length (valuesAt k v)
+  room-left =
+      let i : k .label .size ≡ namespaceOf (memory d v) .size = rw (c .legal .is) in
+      omega (arith, values-used (insert (foundKey f) x m), limits .room, values-long (part-is (c .legal) .holds))
+
+  total-is : k .total ≡ length (values m)
+  total-is = rw (pairs-at (c .legal)) at (standing-in (c .legal) .total)
+
+  -- over a key that is held
+  module _ (h : f .held ≡ true) where
+    erases : CanErase k f d v
+    erases = record { legal = c .legal; looked = c .looked; held = h }
+
+    abbrev rest : List Pair
+    rest = erased (f .slot) m
+
+    again : insert (foundKey f) x m ≡ inserted (f .slot) p rest
+    again = rw (c .looked .slot) (insert-held (foundKey f) x m (sym (c .looked .held) ∙ h))
+
+    fewer : (length rest ≡ length m - 1) × (f .slot ≤ length rest)
+    fewer = let l = length-erased (f .slot) m (inside erases) in (l, omega (arith, inside erases))
+
+    pub can-replace : CanReplace (k .label .id) (k .label .count) (k .total) (f .slot) (foundKey f) x (recordsAt k d) (valuesAt k v)
+    can-replace =
+        let old = value-length-at (part-is (c .legal) .holds) (f .slot) (inside erases) in
+        let sum = values-erased (f .slot) m (inside erases) in
+        let new = values-inserted (f .slot) p rest (fewer .1) in
+        let room = rw again at room-left in
+        record { removes = can-remove erases; fits = omega (arith, total-is); key = key-short }
+
+    pub replaced-image : {r w : List ℕ}
+        → Left k d v (inserted (f .slot) p (erased (f .slot) (pairsIn (k .label .count) (recordsAt k d) (valuesAt k v)))) r w
+        → memory (directoryWith k d r) (valuesWith k v w) ≡ imageWith (insert (foundKey f) x) (memory d v)
+    replaced-image q =
+        same-count (c .legal) (λ (l : List Pair). inserted (f .slot) p (erased (f .slot) l)) q again limits
+        (ap length again ∙ omega (arith, length-inserted (f .slot) p rest (fewer .1), fewer, inside erases))
+
+  -- a new key
+  module _ (h : f .held ≡ false) where
+    added : insert (foundKey f) x m ≡ inserted (f .slot) p m
+    added = rw (c .looked .slot) (insert-new (foundKey f) x m (sym (c .looked .held) ∙ h))
+
+    more : length (insert (foundKey f) x m) ≡ k .label .count + 1
+    more = ap length added ∙ omega (arith, length-inserted (f .slot) p m (slot-le m (c .looked)), count-is (c .legal))
+
+    pub can-insert : CanInsert (k .label .id) (k .label .count) (k .total) (f .slot) (foundKey f) x (recordsAt k d) (valuesAt k v)
+    can-insert =
+        let g = c .legal in
+        let i : slots (k .label .index) ≡ slots (namespaceOf (memory d v) .index) = rw (g .is) in
+        let new = values-inserted (f .slot) p m (slot-le m (c .looked)) in
+        let room = rw added at room-left in
+        record {
+          standing = standing-in g;
+          slot = omega (arith, slot-le m (c .looked), count-is g);
+          free = omega (arith, records-long (part-is g .holds), limits .count, more);
+          fits = omega (arith, total-is);
+          key = key-short;
+        }
+
+    pub inserted-image : {d′ r w : List ℕ} → Left k d v (inserted (f .slot) p (pairsIn (k .label .count) (recordsAt k d) (valuesAt k v))) r w
+        → d′ ≡ put 12 (bytes 4 (k .label .count + 1)) (directoryWith k d r)
+        → memory d′ (valuesWith k v w) ≡ imageWith (insert (foundKey f) x) (memory d v)
+    inserted-image q e = new-count (c .legal) (inserted (f .slot) p) q added limits _ e (sym more)

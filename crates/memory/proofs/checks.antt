@@ -1,0 +1,2 @@
+-- What `check` answers, one law for each way out.
+mod Answers

@@ -1,0 +1,2 @@
+-- The loop that writes a page.
+mod Loop

@@ -1,0 +1,2 @@
+-- A value handed over and keys listed.
+mod Handed

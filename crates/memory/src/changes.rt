@@ -1,0 +1,107 @@
+// The map changed: the empty image written, a pair put, a pair erased.
+use crate::checks::Checked;
+use crate::labels::HEAD;
+use crate::labels::write_count;
+use crate::labels::write_directory_head;
+use octets::runs::clear;
+use store::finds::Found;
+use store::namespaces::Label;
+use store::verbs::insert;
+use store::verbs::remove;
+use store::verbs::replace;
+ghost use mathlib.Core.Path.{_≡_};
+ghost use lib.ListN.{length};
+ghost use Rattle.store.specs.Maps.{insert, erase};
+ghost use Rattle.store.specs.Namespace.{fresh};
+ghost use Rattle.store.specs.Finds.{foundKey};
+ghost use Rattle.memory.specs.Memory.{memory, imageOver, imageWith};
+ghost use Rattle.memory.specs.Checks.{CanEmpty, CanPut, CanErase};
+
+// The records reach up to `end`.
+pub fn write_empty(
+    directory: &mut [u8],
+    values: &mut [u8],
+    index: u32,
+    id: u32,
+    size: u32,
+    end: usize,
+)
+    requires { ⌜ CanEmpty index size end (length (now directory)) (length (now values)) ⌝ }
+    ensures { λ _.
+        ⌜ memory (now (directory .exit)) (now (values .exit))
+        ≡ imageOver (fresh index id size) (memory (now (directory .entry)) (now (values .entry))) ⌝ }
+{
+    write_directory_head(
+        directory,
+        Label {
+            id,
+            index,
+            size,
+            count: 0,
+        },
+    );
+    clear(directory, HEAD, end - HEAD);
+    clear(values, 0, size as usize);
+}
+
+// The key that was looked up is given a value, its first or another one.
+pub fn put(directory: &mut [u8], values: &mut [u8], k: Checked, f: Found, value: &[u8])
+    requires { ⌜ CanPut k f (now value) (now directory) (now values) ⌝ }
+    ensures { λ _.
+        ⌜ memory (now (directory .exit)) (now (values .exit))
+        ≡ imageWith (insert (foundKey f) (now (value .entry))) (memory (now (directory .entry)) (now (values .entry))) ⌝ }
+{
+    let start = k.start;
+    let end = k.end;
+    let size = k.label.size as usize;
+    let id = k.label.id;
+    let count = k.label.count;
+    let key = f.key;
+    let len = f.len as usize;
+    if f.held {
+        replace(
+            &mut directory[start..end],
+            &mut values[..size],
+            id,
+            count,
+            k.total,
+            f.slot,
+            &key[..len],
+            value,
+        );
+        return;
+    }
+    insert(
+        &mut directory[start..end],
+        &mut values[..size],
+        id,
+        count,
+        k.total,
+        f.slot,
+        &key[..len],
+        value,
+    );
+    write_count(directory, count + 1);
+}
+
+pub fn erase(directory: &mut [u8], values: &mut [u8], k: Checked, f: Found)
+    requires { ⌜ CanErase k f (now directory) (now values) ⌝ }
+    ensures { λ _.
+        ⌜ memory (now (directory .exit)) (now (values .exit))
+        ≡ imageWith (erase (foundKey f)) (memory (now (directory .entry)) (now (values .entry))) ⌝ }
+{
+    let start = k.start;
+    let end = k.end;
+    let size = k.label.size as usize;
+    let id = k.label.id;
+    let count = k.label.count;
+    remove(
+        &mut directory[start..end],
+        &mut values[..size],
+        id,
+        count,
+        k.total,
+        f.slot,
+    );
+    write_count(directory, count - 1);
+}

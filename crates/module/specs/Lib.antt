@@ -1,8 +1,0 @@
-pub mod Steps
-pub mod Answer
-pub mod Formatting
-pub mod Command
-pub mod Lists
-pub mod Lends
-pub mod Ruled
-pub mod History

@@ -1,0 +1,2 @@
+-- `Loops` has the invariants of the loops that pass or put bytes one by one.
+mod Loops
