@@ -4,6 +4,7 @@
 
 int printf(const char *, ...);
 void *memcpy(void *, const void *, size_t);
+int memcmp(const void *, const void *, size_t);
 size_t strlen(const char *);
 
 enum { FORMAT = 3, NAMESPACE = 1, SIZE = 4096, PAGE = 44 }; /* tags of up to 16 bytes, records of up to 64, at most 1024 tags */
@@ -40,22 +41,32 @@ static int print(const struct kv_page_key *tag) {
     return 1;
 }
 
-/* Each List begins at the last tag seen, which is then the first on its page. A page of 44 bytes has room for two tags of any
- * length, so a page of fewer than two is the last. */
+/* Each List begins at the last tag seen, which its page repeats if it is still held; a page without a new tag is the last. A page
+ * of 44 bytes has room for two tags of any length, so that each one before it brings a tag. */
 static int tally(uint32_t *count) {
-    struct kv_page_key tag = {0};
-    for (*count = 0;;) {
+    struct kv_page_key last = {0};
+    uint32_t before;
+    *count = 0;
+    do {
         uint8_t page[PAGE];
-        uint32_t first = tag.len > 0, keys;
-        if (!done(ask(KV_LIST, tag.key, tag.len, PAGE))) return 0;
+        uint32_t keys = 1;
+        before = *count;
+        if (!done(ask(KV_LIST, last.key, last.len, PAGE))) return 0;
         memcpy(page, data, PAGE); /* Retrieve uses the same buffer */
-        keys = kv_read_page(page, PAGE, 0).count;
-        for (uint32_t i = first; i < keys; i++, (*count)++) {
-            tag = kv_read_page(page, PAGE, i);
-            if (tag.number != KV_DONE || !print(&tag)) return 0;
+        for (uint32_t i = 0; i < keys; i++) {
+            struct kv_page_key tag = kv_read_page(page, PAGE, i);
+            if (tag.number != KV_DONE) {
+                printf("page refused: number %u\n", tag.number);
+                return 0;
+            }
+            keys = tag.count;
+            if (keys == 0 || (tag.len == last.len && memcmp(tag.key, last.key, tag.len) == 0)) continue;
+            if (!print(&tag)) return 0;
+            last = tag;
+            ++*count;
         }
-        if (keys < 2) return 1;
-    }
+    } while (*count > before);
+    return 1;
 }
 
 int main(void) {

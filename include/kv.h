@@ -1,6 +1,8 @@
 /* The record module's C interface: the device's side, in libmodule.a (`rt staticlib module`).
  *
- * A slice passes as a pointer and a length. The slices lent to one call must not overlap, and none is kept after the call.
+ * A slice passes as a pointer and a length; where the length is 0 the pointer is not followed and may be null, in every call. The
+ * slices lent to one call must not overlap, and none is kept after the call.
+ *
  * The store lives in two lent slices, `directory` and `values`; every call is to be lent the same two, whole, and nothing else
  * writes them in between. Of `directory` 64 + 32 x max keys bytes are needed, of `values` as many as the size; bytes past the
  * needed part change no outcome and are never written.
@@ -12,6 +14,10 @@
 #include <stddef.h>
 #include <stdint.h>
 
+#ifdef __cplusplus
+extern "C" {
+#endif
+
 /* Numbers. */
 enum {
     KV_DONE = 0,
@@ -20,7 +26,7 @@ enum {
     KV_FORMAT_INDEX = 3,      /* format index above 15 */
     KV_NAMESPACE_ID = 4,      /* namespace id 0 or FFFFFFFFh */
     KV_SIZE = 5,              /* size outside 1 to 65,536 */
-    KV_SLICE_LENGTH = 6       /* directory below 64 + 32 x max keys, or value slice below size */
+    KV_SLICE_LENGTH = 6       /* directory or value slice shorter than the format and the size need */
 };
 
 /* Statuses, carried by the completion of a call that returned 0. All but KV_SUCCESS leave store and data buffer unchanged. */
@@ -62,7 +68,7 @@ enum {
     KV_PAGE_PADDING = 10,   /* page padding not zero */
     KV_PAGE_ORDER = 11,     /* page key not above the one before */
     KV_BUILD_KEY = 12,      /* key to build longer than 16 */
-    KV_BUILD_OPCODE = 13    /* opcode to build not one of the five */
+    KV_BUILD_OPCODE = 13    /* the builder knows five opcodes */
 };
 
 /* Builds a 64-byte entry. Dword 10 of Delete and Exist and the options of all but Store are not taken: the entry has 0 there.
@@ -87,7 +93,12 @@ struct kv_page_key {
 };
 
 /* Reads a List page: checks all of it, then gives the key of `ordinal`, counted from 0; `len` is 0 where the page has no such key.
- * Bytes after the last entry are ignored. Number 7, then entry by entry 8 for the length, 9, 8 for key and padding, 10, 11. */
+ * Bytes after the last entry are ignored. Number 7 first; then the first entry that is wrong decides: 8 if its length is cut off, 9,
+ * 8 if its key or padding is, 10, 11. */
 struct kv_page_key kv_read_page(const uint8_t *page, size_t page_len, uint32_t ordinal);
+
+#ifdef __cplusplus
+}
+#endif
 
 #endif

@@ -13,7 +13,7 @@ KEY_MAX, VALUE_MAX, MAX_KEYS, SIZE, ID = 16, 64, 1024, 4096, 1
 
 
 def entry(op, key, amount=0, options=0, cid=0, nsid=1, fused=0, length=None, noise=False):
-    """noise fills what the module does not look at: reserved fields, and key bytes past the key length."""
+    """noise fills all that must not count: what no field has, and the rest of a short key's sixteen bytes."""
     e = bytearray(b"\xa5" * 64 if noise else bytes(64))
     padded = key + (b"\x5a" if noise else b"\0") * (16 - len(key))
     e[0] = op

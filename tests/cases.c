@@ -1,4 +1,5 @@
-/* The module from C: the sample of document 01, its cases P1 to P12, and a store filled to its last byte and its last slot. */
+/* The module from C: the sample of document 01, its cases P1 to P12, a store filled to its last byte and its last slot, and
+ * slices without a byte. After each call every byte past the needed part of both slices is compared. */
 #include "kv.h"
 
 int printf(const char *, ...);
@@ -9,6 +10,8 @@ int memcmp(const void *, const void *, size_t);
 enum { SPARE = 8 };
 
 static uint8_t directory[64 + 32 * 1024 + SPARE], values[65536 + SPARE], data[4096], completion[16], entry[64];
+static uint8_t past[sizeof values]; /* what stands past the needed parts */
+static size_t needed_directory, needed_values;
 static int failed, passed;
 
 static void expect(const char *what, int ok) {
@@ -17,14 +20,24 @@ static void expect(const char *what, int ok) {
     if (!ok) printf("FAILED: %s\n", what);
 }
 
+static void untouched(void) {
+    size_t d = needed_directory, v = needed_values;
+    expect("past the directory's needed part", memcmp(directory + d, past, sizeof directory - d) == 0);
+    expect("past the values' needed part", memcmp(values + v, past, sizeof values - v) == 0);
+}
+
 static void format(uint32_t index, uint32_t size) {
     memset(directory, 0x5a, sizeof directory);
     memset(values, 0x5a, sizeof values);
+    memset(past, 0x5a, sizeof past);
+    needed_directory = 64 + 32 * (1024u >> index / 4 * 2);
+    needed_values = size;
     expect("format", kv_format(index, 1, size, directory, sizeof directory, values, sizeof values) == 0);
+    untouched();
 }
 
-/* one command with `len` key bytes, `amount` in Dword 10 and a data buffer of `room` bytes; its status */
-static int command(int opcode, int options, const void *key, int len, uint32_t amount, size_t room) {
+/* one command with `len` key bytes, `amount` in Dword 10 and a data buffer of `room` bytes at `buffer`; its status */
+static int command_on(uint8_t *buffer, int opcode, int options, const void *key, int len, uint32_t amount, size_t room) {
     int n = len < 16 ? len : 16;
     uint8_t k[16];
     memset(k, 0xee, sizeof k);
@@ -41,12 +54,18 @@ static int command(int opcode, int options, const void *key, int len, uint32_t a
     entry[44] = len;
     entry[45] = options;
     memcpy(entry + 56, k + 8, 8);
-    uint32_t number = kv_command(entry, 64, completion, 16, data, room, directory, sizeof directory, values, sizeof values, 7, 1, 1);
+    uint32_t number = kv_command(entry, 64, completion, 16, buffer, room, directory, sizeof directory, values, sizeof values, 7, 1,
+                                 1);
     expect("number", number == 0);
+    untouched();
     int word = completion[14] | completion[15] << 8;
     expect("phase and type", (word & 1) == 1 && word >> 9 == 0);
     expect("fields", memcmp(completion + 4, "\0\0\0\0\7\0\1\0\x34\x12", 10) == 0);
     return word >> 1 & 255;
+}
+
+static int command(int opcode, int options, const void *key, int len, uint32_t amount, size_t room) {
+    return command_on(data, opcode, options, key, len, amount, room);
 }
 
 static uint32_t dword0(void) {
@@ -68,6 +87,7 @@ static void sample(void) {
     entry[0] = 0x14, entry[2] = 0x34, entry[3] = 0x12, entry[4] = 0x01, entry[8] = 0x41, entry[44] = 0x01;
     uint32_t number = kv_command(entry, 64, completion, 16, data, 0, directory, sizeof directory, values, sizeof values, 1, 1, 1);
     expect("sample", number == 0 && memcmp(completion, "\0\0\0\0\0\0\0\0\1\0\1\0\x34\x12\x0f\x01", 16) == 0);
+    untouched();
 }
 
 static void cases(void) {
@@ -118,8 +138,40 @@ static void fill(uint32_t index, uint32_t size, uint32_t v, uint32_t want) {
     }
     int zero = 1;
     for (uint32_t i = 0; i < size; i++) zero &= values[i] == 0;
-    for (uint32_t i = 16; i < 64 + 32 * (1024u >> index / 4 * 2); i++) zero &= directory[i] == 0;
+    for (uint32_t i = 16; i < needed_directory; i++) zero &= directory[i] == 0;
     expect("empty again", zero && directory[12] == 0 && directory[13] == 0);
+}
+
+/* A slice of no bytes may come with a null pointer: each of the five that the device's calls are lent, alone and all at once. */
+static void empty(void) {
+    uint8_t before[16];
+    format(3, 4096);
+    expect("no data: Store", store(0, "A", 1, 1) == 0 && command_on(0, KV_STORE, 0, "B", 1, 0, 0) == 0);
+    expect("no data: Store of one byte", command_on(0, KV_STORE, 0, "B", 1, 1, 0) == KV_DATA_TRANSFER);
+    expect("no data: Retrieve", command_on(0, KV_RETRIEVE, 0, "A", 1, 0, 0) == 0 && dword0() == 1);
+    expect("no data: Retrieve of one byte", command_on(0, KV_RETRIEVE, 0, "A", 1, 1, 0) == KV_DATA_TRANSFER);
+    expect("no data: List", command_on(0, KV_LIST, 0, "", 0, 4, 0) == KV_DATA_TRANSFER);
+    expect("no data: List of no bytes", command_on(0, KV_LIST, 0, "", 0, 0, 0) == KV_INVALID_FIELD);
+    expect("no data: Exist", command_on(0, KV_EXIST, 0, "B", 1, 1, 0) == 0);
+    expect("no data: Delete", command_on(0, KV_DELETE, 0, "B", 1, 1, 0) == 0);
+    memcpy(before, completion, 16);
+    expect("no entry", kv_command(0, 0, completion, 16, data, 0, directory, sizeof directory, values, sizeof values, 7, 1, 1) == 1);
+    expect("no completion", kv_command(entry, 64, 0, 0, data, 0, directory, sizeof directory, values, sizeof values, 7, 1, 1) == 2);
+    expect("nothing at all", kv_command(0, 0, 0, 0, 0, 0, 0, 0, 0, 0, 7, 1, 1) == 1);
+    expect("a refusal writes no completion", memcmp(completion, before, 16) == 0);
+    expect("no directory", kv_command(entry, 64, completion, 16, 0, 0, 0, 0, values, sizeof values, 7, 1, 1) == 0);
+    expect("no directory: status", completion[14] == (KV_INTERNAL << 1 | 1) && completion[15] == 0);
+    memset(completion, 0x5a, sizeof completion);
+    expect("no values", kv_command(entry, 64, completion, 16, 0, 0, directory, sizeof directory, 0, 0, 7, 1, 1) == 0);
+    expect("no values: status", completion[14] == (KV_INTERNAL << 1 | 1) && completion[15] == 0);
+    memset(completion, 0x5a, sizeof completion);
+    expect("neither", kv_command(entry, 64, completion, 16, 0, 0, 0, 0, 0, 0, 7, 1, 1) == 0);
+    expect("neither: status", completion[14] == (KV_INTERNAL << 1 | 1) && completion[15] == 0);
+    expect("formatting nothing", kv_format(3, 1, 1, 0, 0, 0, 0) == 6 && kv_format(3, 1, 0, 0, 0, 0, 0) == 5);
+    expect("formatting no directory", kv_format(3, 1, 1, 0, 0, values, sizeof values) == 6);
+    expect("formatting no values", kv_format(3, 1, 1, directory, sizeof directory, 0, 0) == 6);
+    untouched();
+    expect("what was stored is held", command(KV_RETRIEVE, 0, "A", 1, 1, 1) == 0 && dword0() == 1);
 }
 
 int main(void) {
@@ -129,8 +181,7 @@ int main(void) {
     fill(3, 65536, 0, 1024);  /* the last slot */
     fill(15, 1608, 100, 15);  /* room for a sixteenth key, but not for its value */
     fill(15, 65536, 4092, 16);
-    for (int i = 0; i < SPARE; i++)
-        expect("bytes past the slices' needed part", directory[sizeof directory - 1 - i] == 0x5a && values[sizeof values - 1 - i] == 0x5a);
+    empty();
     printf("cases from C: %d passed, %d failed\n", passed, failed);
     return failed != 0;
 }

@@ -1,5 +1,23 @@
-/* The host's side from C: the entry of each opcode, a completion, List pages, and every number that refuses. */
+/* The host's side from C: the entry of each opcode, a completion, List pages, every number that refuses, slices without a byte,
+ * and where the fields of the two structs lie. */
 #include "kv.h"
+
+#define AT(type, field, at) _Static_assert(offsetof(struct type, field) == (at), #type "." #field)
+
+_Static_assert(sizeof(struct kv_completion) == 20 && _Alignof(struct kv_completion) == 4, "kv_completion");
+AT(kv_completion, number, 0);
+AT(kv_completion, dword0, 4);
+AT(kv_completion, head, 8);
+AT(kv_completion, queue, 10);
+AT(kv_completion, cid, 12);
+AT(kv_completion, phase, 14);
+AT(kv_completion, status, 15);
+AT(kv_completion, type, 16);
+_Static_assert(sizeof(struct kv_page_key) == 28 && _Alignof(struct kv_page_key) == 4, "kv_page_key");
+AT(kv_page_key, number, 0);
+AT(kv_page_key, count, 4);
+AT(kv_page_key, len, 8);
+AT(kv_page_key, key, 12);
 
 int printf(const char *, ...);
 void *memset(void *, int, size_t);
@@ -98,10 +116,24 @@ static void pages(void) {
     bad("a lower key", "\2\0\0\0\2\0AB\1\0A\0", 12, KV_PAGE_ORDER);
 }
 
+/* a slice of no bytes may come with a null pointer */
+static void empty(void) {
+    expect("no key", build(64, KV_LIST, 0, 0) == KV_DONE && entry[44] == 0 && all(entry + 8, 32, 0) && all(entry + 46, 18, 0));
+    expect("no key: the rest", entry[0] == KV_LIST && entry[2] == 0x34 && memcmp(entry + 40, "\4\3\2\1", 4) == 0);
+    memset(entry, 0x5a, sizeof entry);
+    refused("no entry", KV_ENTRY_LENGTH, kv_build(0, 0, KV_LIST, 1, 1, (const uint8_t *)"A", 1, 4, 0));
+    refused("no entry and no key", KV_ENTRY_LENGTH, kv_build(0, 0, KV_LIST, 1, 1, 0, 0, 4, 0));
+    bad("no page", 0, 0, KV_PAGE_LENGTH);
+    struct kv_completion r = kv_read_completion(0, 0);
+    expect("no completion", r.number == KV_COMPLETION_LENGTH && r.dword0 == 0 && r.head == 0 && r.queue == 0 && r.cid == 0);
+    expect("no completion: the word", r.phase == 0 && r.status == 0 && r.type == 0);
+}
+
 int main(void) {
     builder();
     completions();
     pages();
+    empty();
     printf("host from C: %d passed, %d failed\n", passed, failed);
     return failed != 0;
 }

@@ -32,7 +32,7 @@ static int one_of_five(uint8_t opcode) {
     return opcode == STORE || opcode == RETRIEVE || opcode == LIST || opcode == DELETE || opcode == EXIST;
 }
 
-/* "Keys compare byte by byte from byte 0; a proper beginning of a key comes before it." */
+/* the order of keys: the first byte that differs decides, and where none does the shorter key is the lower */
 static int below(const uint8_t *a, uint32_t a_len, const uint8_t *b, uint32_t b_len) {
     for (uint32_t i = 0; i < a_len && i < b_len; i++)
         if (a[i] != b[i]) return a[i] < b[i];
@@ -110,32 +110,6 @@ static uint32_t refusal(uint32_t index, uint32_t id, uint64_t size, size_t direc
     return 0;
 }
 
-int model_read(struct model_store *s, const uint8_t *directory, size_t directory_len, const uint8_t *values, size_t values_len) {
-    if (directory_len < 64) return 0;
-    s->id = get32(directory);
-    s->index = get32(directory + 4);
-    s->size = get32(directory + 8);
-    s->count = get32(directory + 12);
-    if (refusal(s->index, s->id, s->size, directory_len, values_len) != 0) return 0;
-    if (!zeros(directory + 16, 48) || s->count > model_max_keys(s->index)) return 0;
-    uint32_t place = 0, used = 0;
-    const uint8_t *record = directory + 64;
-    for (uint32_t i = 0; i < s->count; i++, record += 32) {
-        uint32_t len = get32(record + 16), n = get32(record + 24);
-        if (len < 1 || len > model_key_max(s->index) || n > model_value_max(s->index)) return 0;
-        if (!zeros(record + len, 16 - len) || get32(record + 20) != place || get32(record + 28) != s->id) return 0;
-        if (i > 0 && !below(s->pairs[i - 1].key, s->pairs[i - 1].key_len, record, len)) return 0;
-        used += len + n;
-        if (used > s->size) return 0;
-        memcpy(s->pairs[i].key, record, len);
-        s->pairs[i].key_len = len;
-        s->pairs[i].value_len = n;
-        memcpy(cell(s, i), values + place, n);
-        place += n;
-    }
-    return zeros(record, 32 * (model_max_keys(s->index) - s->count)) && zeros(values + place, s->size - place);
-}
-
 static void lay(const struct model_store *s, uint8_t *directory, uint8_t *values) {
     memset(directory, 0, 64 + 32 * model_max_keys(s->index));
     memset(values, 0, s->size);
@@ -155,6 +129,46 @@ static void lay(const struct model_store *s, uint8_t *directory, uint8_t *values
         memcpy(values + place, model_value(s, i), p->value_len);
         place += p->value_len;
     }
+}
+
+/* A map out of the bytes, as far as there is one: the head's numbers, and of each record its key and the bytes that it points
+ * at. Only what could not be kept in `s` or would be read past the size stops it; all else is left to the comparison below. */
+static int reads(struct model_store *s, const uint8_t *directory, size_t directory_len, const uint8_t *values, size_t values_len) {
+    if (directory_len < 64) return 0;
+    s->id = get32(directory);
+    s->index = get32(directory + 4);
+    s->size = get32(directory + 8);
+    s->count = get32(directory + 12);
+    if (refusal(s->index, s->id, s->size, directory_len, values_len) != 0 || s->count > model_max_keys(s->index)) return 0;
+    for (uint32_t i = 0; i < s->count; i++) {
+        const uint8_t *record = directory + 64 + 32 * i;
+        uint32_t len = get32(record + 16), place = get32(record + 20), n = get32(record + 24);
+        if (len > 16 || n > model_value_max(s->index) || place > s->size || n > s->size - place) return 0;
+        memcpy(s->pairs[i].key, record, len);
+        s->pairs[i].key_len = len;
+        s->pairs[i].value_len = n;
+        memcpy(cell(s, i), values + place, n);
+    }
+    return 1;
+}
+
+/* The limits of the formatting, and that the pairs are a map: no key twice, and in the one order in which they are laid. */
+static int within(const struct model_store *s) {
+    for (uint32_t i = 0; i < s->count; i++) {
+        const struct model_pair *p = s->pairs + i;
+        if (p->key_len < 1 || p->key_len > model_key_max(s->index)) return 0;
+        if (i > 0 && !below(p[-1].key, p[-1].key_len, p->key, p->key_len)) return 0;
+    }
+    return model_used(s) <= s->size;
+}
+
+/* Legal memory is the image of a map: so the map is laid out anew, and every needed byte compared. Where a fault lies, or of
+ * what kind it is, is not asked: this shares no test of a field with what the module does. */
+int model_read(struct model_store *s, const uint8_t *directory, size_t directory_len, const uint8_t *values, size_t values_len) {
+    static uint8_t head_and_records[64 + 32 * 1024], room[65536];
+    if (!reads(s, directory, directory_len, values, values_len) || !within(s)) return 0;
+    lay(s, head_and_records, room);
+    return memcmp(directory, head_and_records, 64 + 32 * model_max_keys(s->index)) == 0 && memcmp(values, room, s->size) == 0;
 }
 
 uint32_t model_format(uint32_t index, uint32_t id, uint64_t size, uint8_t *directory, size_t directory_len, uint8_t *values,
@@ -178,7 +192,7 @@ static void list(const struct model_store *s, uint32_t at, uint8_t *data, uint32
     uint32_t end = 4, count = 0;
     for (; at < s->count; at++, count++) {
         const struct model_pair *p = s->pairs + at;
-        if (end + entry_len_of(p->key_len) > amount) break; /* "even if a later one would fit" */
+        if (end + entry_len_of(p->key_len) > amount) break; /* a later, shorter key is not tried */
         memset(data + end, 0, entry_len_of(p->key_len));
         put16(data + end, p->key_len);
         memcpy(data + end + 2, p->key, p->key_len);
@@ -209,7 +223,7 @@ static uint32_t status_of(struct model_store *s, const uint8_t *entry, uint8_t *
     if (present && opcode == STORE && options / 2 % 2 == 1) return 0x89;
     if (opcode == STORE) {
         if (!present && s->count == model_max_keys(s->index)) return 0x81;
-        if (model_used(s) + len + amount > s->size) return 0x81; /* "a replaced pair still counts as used" */
+        if (model_used(s) + len + amount > s->size) return 0x81; /* step j: the old pair is not taken off */
         set(s, at, present, key, len, data, amount);
     } else if (opcode == RETRIEVE) {
         uint32_t n = s->pairs[at].value_len;
@@ -274,7 +288,7 @@ struct kv_completion model_read_completion(const uint8_t *completion, size_t com
     return c;
 }
 
-/* What is wrong with the page, entry by entry: 8 for the length, 9, 8 for key and padding, 10, 11. */
+/* What is wrong with the page: of the faults the one that stands first, and within an entry in the order of the tests here. */
 static uint32_t page_number(const uint8_t *page, size_t page_len, uint32_t ordinal, struct kv_page_key *found) {
     if (page_len < 4) return 7;
     const uint8_t *before = page;

@@ -12,7 +12,7 @@ use Rattle.commands.specs.Command.{post, lent, serve}
 use Rattle.bench.specs.Text.{line}
 use Rattle.bench.specs.Span.{pageSpan}
 
--- the head of the entry that n others came before: the count of entries read, modulo 65,536
+-- the queue head for the entry that n others came before
 abbrev pub headAfter : ℕ → ℕ
 headAfter n = (n + 1) % 65536
 
@@ -24,7 +24,7 @@ roomOf c = cond (isStore (c .opcode)) (min (c .amount) 4096) (cond (isRetrieve (
 abbrev pub gives : ℕ → ℕ → Bool
 gives op status = (isRetrieve op || isList op) && eqb status 0
 
--- how many, of a data buffer b: the page, or the smaller of host buffer size and value length, which Dword 0 gives
+-- how many, of a data buffer b: the page, or as much of the value, whose length Dword 0 gives, as the host buffer has room for
 unfoldable pub givenOf : Command → ℕ → List ℕ → ℕ
 givenOf c dword0 b = cond (isList (c .opcode)) (pageSpan b) (min (min (c .amount) dword0) (length b))
 

@@ -1,5 +1,5 @@
-// The bench program: "reads entries from standard input, each Store followed by as many bytes as Dword 10 says". What is read and
-// written no contract can say, so that all else stands in functions on slices (`turns.rt`, `texts.rt`, `spans.rt`).
+// The bench program (docs/MANUAL.md, section 13). What is read and written no contract can say, so that all else stands in functions
+// on slices (`turns.rt`, `texts.rt`, `spans.rt`).
 mod spans;
 mod texts;
 mod turns;
@@ -15,7 +15,7 @@ use wire::entries::read_entry;
 ghost use Prim.Native.Nat.{_≤_};
 ghost use lib.ListN.{length};
 
-// "Input that ends inside an entry or value prints the line `cut` and stops, that command not run."
+// Where the input breaks off, the command is not run.
 fn cut() -> bool {
     io::write_all(STDOUT_FILENO, b"cut\n");
     false
@@ -74,7 +74,7 @@ fn run(directory: &mut [u8], values: &mut [u8]) {
     }
 }
 
-// "Format 3, id 1, size 4096": a directory of 64 + 32 x 1024 bytes.
+// Format 3 allows 1024 keys: a directory of 64 + 32 x 1024 bytes.
 fn main() {
     let mut directory = [0u8; 32832];
     let mut values = [0u8; 4096];

@@ -34,7 +34,7 @@ fn is_list(opcode: u8) -> bool
     opcode == LIST
 }
 
-// "... with head the count of entries read modulo 65,536": the entry counts itself, and count those before it.
+// The entry counts itself, and `count` those before it.
 pub fn head_of(count: u64) -> u16
     requires { ⌜ count < 0xffff_ffff_ffff_ffff ⌝ }
     ensures { λ r. ⌜ r ≡ headAfter count ⌝ }
@@ -48,7 +48,7 @@ fn least(a: u32, b: u32) -> u32
     if a < b { a } else { b }
 }
 
-// A Store is followed by "as many bytes as Dword 10 says, at most 4096".
+// What a Store lends is what follows its entry.
 pub fn room_of(c: Command) -> usize
     ensures { λ r. ⌜ r ≡ roomOf c ⌝ }
     ensures { λ r. ⌜ r ≤ 4096 ⌝ }
@@ -62,7 +62,7 @@ pub fn room_of(c: Command) -> usize
     0
 }
 
-// "... after a successful Retrieve or List ..."
+// Only these print a second line.
 fn is_giving(opcode: u8, status: u8) -> bool
     ensures { λ r. ⌜ r ≡ gives opcode status ⌝ }
 {

@@ -1,27 +1,26 @@
 -- One command on memory that is the image of a namespace leaves the image of what the command makes of it; formatting leaves the image of
--- the empty map; what lies past the needed part changes no outcome and is not written. Assumes nothing.
-use mathlib.Core.Path.{_≡_, refl, sym, ap, _∙_}
+-- the empty map; what lies past the needed part is not written. Assumes nothing.
+use mathlib.Core.Path.{_≡_, refl, ap}
 use mathlib.Core.Bool.{Bool, true, false, cond}
 use mathlib.Core.List.{List}
-use Prim.Native.Nat.{ℕ, _+_, _≤_}
+use Prim.Native.Nat.{ℕ}
 use native.Mathlib.Nat.{zero-add}
 use native.Mathlib.Omega.{arith}
-use lib.ListN.{length, take, drop, length-append, length-take, length-drop}
+use lib.ListN.{length, drop, length-append, length-take, length-drop}
 use lib.Seq.{drop-at}
 use lib.Dec.{eqb}
 use borrow.Author.Tests.{eqb-true}
-use Rattle.octets.specs.Octets.{part, put, number}
+use Rattle.octets.specs.Octets.{part, put}
 use Rattle.octets.specs.Tests.{firstOf}
-use Rattle.octets.proofs.TestLaws.{contrary, known, holds, fails}
-use Rattle.octets.proofs.PartLaws.{part-take}
+use Rattle.octets.proofs.TestLaws.{known, holds, fails}
 use Rattle.wire.specs.declared.entries.Command.{Command}
 use Rattle.wire.specs.Entry.{readCommand}
 use Rattle.store.specs.Namespace.{Namespace, withPairs, fresh}
 use Rattle.store.proofs.NamespaceLaws.{Within, fresh-within}
-use Rattle.memory.specs.Memory.{Memory, needed, formatSteps, directoryOf, valuesOf, imageOver, labelIn, namespaceOf, legal}
+use Rattle.memory.specs.Memory.{Memory, needed, formatSteps, directoryOf, valuesOf, imageOver, namespaceOf, legal}
 use Rattle.memory.proofs.FormatLaws.{formattable}
 use Rattle.memory.proofs.ImageLaws.{length-directory, length-values, Holds, holds-back, holds-legal, legal-holds, over-holds}
-use Rattle.commands.specs.Steps.{steps, statusOf}
+use Rattle.commands.specs.Steps.{statusOf}
 use Rattle.commands.specs.Answer.{Answer, answer}
 use Rattle.commands.specs.Formatting.{format}
 use Rattle.commands.specs.Command.{Post, completionOf, Lent, respond, serve, command}
@@ -106,7 +105,7 @@ module _ (i id n : ℕ) (m : Memory) where
   unfolding format
   format-refused e = rw e
 
-  -- formatting gives the legal image of the empty map
+  -- what formatting leaves is the empty map
   pub format-holds : format i id n m .number ≡ 0 → Holds (fresh i id n) (format i id n m .after)
   unfolding format
   format-holds e =
@@ -114,9 +113,8 @@ module _ (i id n : ℕ) (m : Memory) where
       (over-holds (fresh i id n) m
       (fresh-within i id n (formattable i id n (length (m .directory)) (length (m .values)) e .permits)))
 
--- ---- bytes past the needed part
+-- ---- bytes past the needed part are not written
 
--- they are not written
 pub past-put : (n : ℕ) (xs old : List ℕ) → length xs ≡ n → drop n (put 0 xs old) ≡ drop n old
 unfolding put
 past-put n xs old e = rw (zero-add, e) (drop-at xs (drop n old) n e)
@@ -142,57 +140,3 @@ serve-kept p c l s h sixteen = rw (serve-is p c l s h) (go (eqb (given p c l s h
     go : (z : Bool) → Kept (s .index) (s .size) (l .memory) (cond z (imageOver next (l .memory)) (l .memory))
     go true = over-kept next (l .memory) (answer-within s c (l .buffer) (h .within) sixteen)
     go false = record { directory = refl; values = refl }
-
-serve-illegal : (p : Post) (c : Command) (x b : List ℕ) (m : Memory) → legal m ≡ false
-    → (serve p c (record { completion = x; buffer = b; memory = m }) .completion ≡ completionOf p c 0x06 0)
-    × (serve p c (record { completion = x; buffer = b; memory = m }) .buffer ≡ b)
-unfolding serve respond answer statusOf steps
-serve-illegal p c x b m e = (rw e, rw e)
-
--- they change no outcome: the needed part of a memory is as long as its head says
-pub record Alike (m n : Memory) : Type 0 where
-  pub directory : take (needed (namespaceOf m .index)) (n .directory) ≡ take (needed (namespaceOf m .index)) (m .directory)
-  pub values : take (namespaceOf m .size) (n .values) ≡ take (namespaceOf m .size) (m .values)
-
-pub alike-holds : {s : Namespace} {m n : Memory} → Holds s m → Alike m n → Holds s n
-alike-holds h a =
-    let b = holds-back h in
-    record { within = h .within; directory = rw b at (a .directory) ∙ h .directory; values = rw b at (a .values) ∙ h .values }
-
-alike-word : (at : ℕ) {m n : Memory} → Alike m n → at + 4 ≤ 64 → number (part at 4 (n .directory)) ≡ number (part at 4 (m .directory))
-alike-word at {m} {n} a h =
-    let i = needed (namespaceOf m .index) in
-    ap number (sym (part-take at 4 i (n .directory) (omega arith)) ∙ ap (part at 4) (a .directory) ∙ part-take at 4 i (m .directory) (omega arith))
-
-alike-turned : {m n : Memory} → Alike m n → Alike n m
-unfolding namespaceOf labelIn
-alike-turned a = record {
-  directory = rw (alike-word 4 a (omega arith)) (sym (a .directory));
-  values = rw (alike-word 8 a (omega arith)) (sym (a .values));
-}
-
-alike-true : {m n : Memory} → Alike m n → legal m ≡ true → legal n ≡ true
-alike-true {m} a e = holds-legal (alike-holds (legal-holds m e) a)
-
-abbrev pub on : Post → Command → List ℕ → List ℕ → Memory → Lent
-on p c x b m = serve p c (record { completion = x; buffer = b; memory = m })
-
--- a read command gives the same completion and data whatever lies past the needed part
-pub past-same : (p : Post) (c : Command) (x b : List ℕ) (m n : Memory) → Alike m n
-    → (on p c x b n .completion ≡ on p c x b m .completion) × (on p c x b n .buffer ≡ on p c x b m .buffer)
-past-same p c x b m n a = go (legal m) refl (legal n) refl
-  where
-    same : Holds (namespaceOf m) m → (on p c x b n .completion ≡ on p c x b m .completion) × (on p c x b n .buffer ≡ on p c x b m .buffer)
-    same h =
-        let s = namespaceOf m in
-        let f = serve-is p c (record { completion = x; buffer = b; memory = m }) s h in
-        let g = serve-is p c (record { completion = x; buffer = b; memory = n }) s (alike-holds h a) in (
-          ap (λ (l : Lent). l .completion) g ∙ sym (ap (λ (l : Lent). l .completion) f),
-          ap (λ (l : Lent). l .buffer) g ∙ sym (ap (λ (l : Lent). l .buffer) f),
-        )
-
-    go : (y : Bool) → legal m ≡ y → (z : Bool) → legal n ≡ z
-        → (on p c x b n .completion ≡ on p c x b m .completion) × (on p c x b n .buffer ≡ on p c x b m .buffer)
-    go true e z f = same (legal-holds m e)
-    go false e true f = absurd (contrary (sym e ∙ alike-true (alike-turned a) f))
-    go false e false f = let u = serve-illegal p c x b m e in let v = serve-illegal p c x b n f in (v .0 ∙ sym (u .0), v .1 ∙ sym (u .1))

@@ -20,23 +20,23 @@ pub record Answer : Type 0 where
 
 -- ---- what a command does that no step refuses
 
--- Dword 0 is the whole value's length for a successful Retrieve and zero otherwise
+-- of a Retrieve, how long the stored value is, however much of it is moved
 abbrev pub dwordAfter : Command → List Pair → ℕ
 dwordAfter c m = cond (isRetrieve (c .opcode)) (length (valueOf (keyOf c) m)) 0
 
--- Retrieve moves the smaller of host buffer size and value length; List writes its page
+-- what a Retrieve moves is cut to the host buffer; a List leaves its page
 abbrev pub bufferAfter : Command → List ℕ → List Pair → List ℕ
 bufferAfter c b m =
     cond (isRetrieve (c .opcode)) (put 0 (take (c .amount) (valueOf (keyOf c) m)) b)
     (cond (isList (c .opcode)) (put 0 (page (shown (c .amount) (keyOf c) (keys m))) b) b)
 
--- Store sets or replaces the value, from the data buffer's first bytes; Delete removes the pair
+-- a Store puts the front of the data buffer under the key; a Delete takes the pair out
 abbrev pub pairsAfter : Command → List ℕ → List Pair → List Pair
 pairsAfter c b m =
     cond (isStore (c .opcode)) (insert (keyOf c) (take (c .amount) b) m)
     (cond (isDelete (c .opcode)) (erase (keyOf c) m) m)
 
--- all statuses but 00h leave store and data buffer unchanged
+-- a refusal changes nothing
 abbrev pub answerAt : ℕ → Command → List ℕ → List Pair → Answer
 answerAt st c b m =
     cond (eqb st 0) (record { status = 0; dword0 = dwordAfter c m; buffer = bufferAfter c b m; pairs = pairsAfter c b m })

@@ -1,5 +1,5 @@
--- The module's statuses: document 01's table of steps a to j, row by row and in its order. `View` is what they look at beside the
--- command. Assumes nothing.
+-- The module's statuses: the table of steps a to j (docs/MANUAL.md, section 7), row by row and in its order. `View` is what they look at
+-- beside the command. Assumes nothing.
 use mathlib.Core.Bool.{Bool, not, _&&_, _||_}
 use mathlib.Core.List.{List, [], _∷_}
 use Prim.Native.Nat.{ℕ, _+_}
@@ -22,29 +22,29 @@ unfoldable pub steps : View → Command → List Row
 steps v c =
     let op = c .opcode in
     let f = v .format in
-    -- a: store memory not legal
+    -- a
     row (not (v .legal)) 0x06
-    -- b: opcode not in the table
+    -- b
     ∷ row (not (known op)) 0x01
-    -- c: fused bits not 0
+    -- c
     ∷ row (not (eqb (c .fused) 0)) 0x02
-    -- d: namespace id is another
+    -- d
     ∷ row (not (eqb (c .nsid) (v .id))) 0x0b
-    -- e: key length above 16
+    -- e
     ∷ row (ltb 16 (c .len)) 0x02
-    -- f: key length above the format's, or 0 except in List
+    -- f
     ∷ row (ltb (f .keymax) (c .len) || eqb (c .len) 0 && not (isList op)) 0x86
-    -- g: Store: value size above the format's
+    -- g, of a Store
     ∷ row (isStore op && ltb (f .valuemax) (c .amount)) 0x85
-    -- g: List: host buffer size below 4
+    -- g, of a List
     ∷ row (isList op && ltb (c .amount) 4) 0x02
-    -- h: Store, Retrieve, List: data buffer shorter than Dword 10
+    -- h
     ∷ row ((isStore op || isRetrieve op || isList op) && ltb (v .room) (c .amount)) 0x04
-    -- i: key absent: Retrieve, Delete, Exist, Store with bit 0
+    -- i, no such key
     ∷ row ((isRetrieve op || isDelete op || isExist op || ifPresent c) && not (v .held)) 0x87
-    -- i: key present: Store with bit 1
+    -- i, the key is there
     ∷ row (ifAbsent c && v .held) 0x89
-    -- j: Store: new key and max keys held, or used room + key length + value size above size
+    -- j: no slot left, or no room
     ∷ row (isStore op && (not (v .held) && leb (f .maxkeys) (v .count) || ltb (v .size) (v .used + c .len + c .amount))) 0x81
     ∷ []
 

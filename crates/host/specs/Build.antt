@@ -10,7 +10,7 @@ use Rattle.octets.specs.Tests.{Row, row, firstOf}
 use Rattle.wire.specs.declared.entries.Command.{Command}
 use Rattle.wire.specs.Entry.{writeCommand, known, isStore, isDelete, isExist, notEntry}
 
--- zero in Dword 10 of Delete and Exist, and in options of all but Store
+-- fields that a command does not have are zero
 abbrev pub amountOf : ℕ → ℕ → ℕ
 amountOf o n = cond (isDelete o || isExist o) 0 n
 

@@ -23,7 +23,7 @@ fn is_known(opcode: u8) -> bool
         | (opcode == EXIST)
 }
 
-// "... it writes zero ... in Dword 10 of Delete and Exist ..."
+// Delete and Exist have no Dword 10.
 fn amount_of(opcode: u8, dword10: u32) -> u32
     ensures { λ r. ⌜ r ≡ amountOf opcode dword10 ⌝ }
 {
@@ -33,7 +33,7 @@ fn amount_of(opcode: u8, dword10: u32) -> u32
     dword10
 }
 
-// "... and in options of all but Store."
+// Only a Store has options.
 fn options_of(opcode: u8, options: u8) -> u8
     ensures { λ r. ⌜ r ≡ optionsOf opcode options ⌝ }
 {
@@ -59,7 +59,7 @@ fn command_of(opcode: u8, cid: u16, nsid: u32, key: &[u8], dword10: u32, options
     }
 }
 
-// "Builder: 1, 12, 13."
+// Numbers 1, 12, 13.
 #[no_mangle]
 pub extern "C" fn kv_build(
     entry: &mut [u8],

@@ -25,7 +25,7 @@ fn is_less(o: Order) -> bool
     }
 }
 
-// "... entry by entry 8 for the length, 9, 8 for key and padding, 10, 11." What is before the first entry is the empty key.
+// Numbers 8 to 11. What is before the first entry is the empty key.
 pub fn read_page_entry(rest: &[u8], before: &[u8]) -> PageEntry
     ensures { λ r. ⌜ r ≡ firstEntry (now (before .entry)) (now (rest .entry)) ⌝ }
 {

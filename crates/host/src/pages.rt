@@ -18,7 +18,7 @@ pub struct PageKey {
     pub key: [u8; 16],
 }
 
-// "... a refusal gives count 0 and length 0."
+// Beside a number there is nothing else.
 fn refused(number: u32) -> PageKey
     ensures { λ r. ⌜ r ≡ refusal number ⌝ }
 {
@@ -42,7 +42,7 @@ fn page_key(count: u32, key: &[u8]) -> PageKey
     }
 }
 
-// "It checks the whole page, then gives the count and the key of an asked ordinal from 0 ..."
+// A key is given of a page that is right to its end.
 #[no_mangle]
 pub extern "C" fn kv_read_page(page: &[u8], ordinal: u32) -> PageKey
     ensures { λ r. ⌜ r ≡ pageKey (readPage (now (page .entry))) ordinal ⌝ }

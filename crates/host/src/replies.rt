@@ -16,7 +16,7 @@ pub struct Reply {
     pub kind: u8,
 }
 
-// "Completion reader: 2; it gives all the named fields."
+// Number 2.
 #[no_mangle]
 pub extern "C" fn kv_read_completion(completion: &[u8]) -> Reply
     ensures { λ r. ⌜ r ≡ reply (now (completion .entry)) ⌝ }

@@ -1,5 +1,5 @@
--- The image of a namespace in the two slices has the needed lengths and is read back; memory is legal exactly if it is the image of
--- some namespace within its limits; the same pairs have the same image. Assumes nothing.
+-- The image of a namespace in the two slices has the needed lengths and is read back; legal memory and the image of
+-- some namespace within its limits are one and the same; the same pairs have the same image. Assumes nothing.
 use mathlib.Core.Path.{_≡_, refl, sym, ap, ap₂, _∙_}
 use mathlib.Core.Bool.{true}
 use mathlib.Core.List.{List, _++_}
@@ -90,7 +90,7 @@ holds-back {s} {m} h =
     (sym (take-append-drop (s .size) (m .values)) ∙ ap (λ (l : List ℕ). l ++ drop (s .size) (m .values)) (h .values))
     ∙ namespace-back s (drop n (m .directory)) (drop (s .size) (m .values)) (h .within)
 
--- memory is legal exactly if it is the image of some namespace within its limits
+-- legal memory is an image, and an image within the limits is legal
 pub holds-legal : {s : Namespace} {m : Memory} → Holds s m → legal m ≡ true
 unfolding legal
 holds-legal {s} {m} h = rw (holds-back h, true-within s (h .within), h .directory, h .values, same-self (directoryOf s), same-self (valuesOf s))

@@ -1,5 +1,6 @@
--- Keys are lists of bytes. They compare byte by byte from byte 0; a proper beginning of a key comes before it. A key in sixteen
--- bytes is also two numbers and a length. Assumes nothing.
+-- Keys are lists of bytes, in the order of a dictionary: the first byte that differs decides, and a key that runs out is the lower one.
+-- A key in sixteen bytes is also two numbers and a length. Assumes nothing.
+use mathlib.Core.Path.{_≡_, refl}
 use Prim.Native.Nat.{ℕ, _+_, _-_, _*_, _%_, _^_}
 use mathlib.Core.Bool.{Bool, true, false, cond, _&&_}
 use mathlib.Core.List.{List, [], _∷_}
@@ -26,6 +27,10 @@ order [] [] = Equal
 order [] (y ∷ ys) = Less
 order (x ∷ xs) [] = Greater
 order (x ∷ xs) (y ∷ ys) = then (orderN x y) (order xs ys)
+
+-- a zero byte counts: "A", and "A" with one behind it, are two keys
+pub zero-counts : order (0x41 ∷ []) (0x41 ∷ 0x00 ∷ []) ≡ Less
+zero-counts = refl
 
 -- one of three by an order
 abbrev pub three {ℓ} : {A : Type ℓ} → Order → A → A → A → A

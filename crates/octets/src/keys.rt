@@ -13,7 +13,7 @@ pub enum Order {
     Greater,
 }
 
-// "Keys compare byte by byte from byte 0; a proper beginning of a key comes before it."
+// The first byte that differs decides; a key that runs out is the lower one.
 pub fn compare(a: &[u8], b: &[u8]) -> Order
     ensures { λ r. ⌜ r ≡ order (now (a .entry)) (now (b .entry)) ⌝ }
 {

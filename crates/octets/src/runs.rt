@@ -47,7 +47,7 @@ pub fn move_down(s: &mut [u8], from: usize, n: usize, to: usize)
     }
 }
 
-// "Room that holds nothing is zero."
+// What is taken out leaves zeros.
 pub fn clear(s: &mut [u8], at: usize, n: usize)
     requires { ⌜ at + n ≤ length (now s) ⌝ }
     ensures { λ _. ⌜ now (s .exit) ≡ put at (replicate n 0) (now (s .entry)) ⌝ }

@@ -64,6 +64,10 @@ store k v = request 0x01 k (length v) v
 abbrev pub exist : Key → Request
 exist k = request 0x14 k 0 []
 
+-- a List from k, with room for two entries of the longest keys
+abbrev pub list : Key → Request
+list k = request 0x06 k 44 (replicate 50 0xff)
+
 -- refused: by number 1, by number 3, and a Store by step j
 abbrev pub vain : List Call
 vain = commanding (post 0 0 0) [] [] [] ∷ formatting 16 1 64 ∷ call (store B (replicate 64 0)) ∷ []

@@ -2,9 +2,19 @@
 pub mod History
 pub mod Walk
 pub mod Retrieve
+pub mod Answers
+pub mod NeverStored
+pub mod Refusals
+pub mod Unread
+pub mod OnlyAnswers
+pub mod Past
 pub mod Agreement
 pub mod Unique
+pub mod Demands
 pub mod StandIns
+pub mod Members
 mod RequestLaws
 mod ShownLaws
+mod AnyMemory
+mod Bits
 mod Examples

@@ -73,7 +73,7 @@ module _ (a : Start) (xs : List Call) (x : Request) (ys : List Call) (op : ℕ) 
       ∙ spared k t (sends m x .after .memory) ys (told-call s m (call x) (holds-after a xs (since .formatted))) (since .spared)
       ∙ rw (since .done)
 
-  held-stored : op ≡ 0x01 → lookup k (storedAfter a (xs ++ call x ∷ ys) .pairs) ≡ some (valueIn x)
+  pub held-stored : op ≡ 0x01 → lookup k (storedAfter a (xs ++ call x ∷ ys) .pairs) ≡ some (valueIn x)
   held-stored o = held ∙ rw (since .opcode, o, since .key) (lookup-insert k (valueIn x) (storedAfter a xs .pairs))
 
   held-deleted : op ≡ 0x10 → lookup k (storedAfter a (xs ++ call x ∷ ys) .pairs) ≡ none
@@ -86,12 +86,13 @@ module _ (s : Namespace) (k : Key) (op : ℕ) (r : Request) (p : Proper s op k r
   unfolding steps
   absent-status o e = later-steps s r (p .passes) ∙ rw (p .opcode, o, p .key, e)
 
-  held-status : isStore op ≡ false → (v : List ℕ) → lookup k (s .pairs) ≡ some v → statusOf true s (asked r) (length (r .buffer)) ≡ 0
+  pub held-status : isStore op ≡ false → (v : List ℕ) → lookup k (s .pairs) ≡ some v → statusOf true s (asked r) (length (r .buffer)) ≡ 0
   unfolding steps
   held-status o v e = later-steps s r (p .passes) ∙ rw (p .opcode, o, p .key, e, and-false)
 
 module _ (s : Namespace) (m : Memory) (h : Holds s m) (k : Key) (r : Request) where
-  absent : (op : ℕ) → Proper s op k r → (isRetrieve op || isDelete op || isExist op) ≡ true → lookup k (s .pairs) ≡ none → Gives 0x87 0 (r .buffer) (sends m r)
+  pub absent : (op : ℕ) → Proper s op k r → (isRetrieve op || isDelete op || isExist op) ≡ true → lookup k (s .pairs) ≡ none
+      → Gives 0x87 0 (r .buffer) (sends m r)
   absent op p o e =
       let st = absent-status s k op r p o e in
       gives s m r h (p .passes) _ (rw st at (refused true s (asked r) (r .buffer) (rw st))) (omega arith)

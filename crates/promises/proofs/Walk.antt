@@ -5,12 +5,13 @@ use mathlib.Core.List.{List, [], _∷_, _++_, append-nil, append-assoc}
 use Prim.Native.Nat.{ℕ, suc, _+_, _-_}
 use native.Mathlib.Omega.{arith}
 use lib.Dec.{eqb}
-use lib.ListN.{length, replicate, length-append}
+use lib.ListN.{length, length-append}
 use borrow.Author.Tests.{not-true}
 use Rattle.octets.specs.Octets.{put}
 use Rattle.octets.specs.Keys.{Key, rising}
 use Rattle.octets.proofs.TestLaws.{both, neither}
 use Rattle.octets.proofs.OrderLaws.{true-rising}
+use Rattle.octets.proofs.ZeroLaws.{same-self}
 use Rattle.wire.specs.declared.entries.Command.{Command}
 use Rattle.wire.specs.Entry.{readCommand, isStore, isDelete}
 use Rattle.wire.specs.Page.{entrySize, page, fits, Reading, keys, readPage, shown}
@@ -28,7 +29,7 @@ use Rattle.promises.specs.Requests.{Request, call, sends, asked}
 use Rattle.promises.specs.Walks.{pageRead, newOn, lastOf, Lists, Onward, ended, paused, next, Walk, Finds}
 use Rattle.promises.proofs.RequestLaws.{holds-after, later-steps, gives}
 use Rattle.promises.proofs.ShownLaws.{Pageable, pageable, pageable-right, fits-begins, fits-none, from-empty, from-stored, shown-read}
-use Rattle.promises.proofs.Examples.{onMemory, start, start-begun, request, key, store, exist}
+use Rattle.promises.proofs.Examples.{onMemory, start, start-begun, key, store, exist, list}
 
 -- ---- calls that change nothing
 
@@ -98,12 +99,12 @@ module _ (s : Namespace) where
 
   -- a later page: from the stored key j it shows j, then the keys that fit of those after it
   later : (m : Memory) (x : Request) (js : List Key) (j : Key) (rest : List Key) → Holds s m → Lists s j x → js ++ j ∷ rest ≡ ks
-      → newOn (pageRead m x) ≡ keys (fits (asked x .amount - 4 - entrySize (length j)) rest)
+      → newOn j (pageRead m x) ≡ keys (fits (asked x .amount - 4 - entrySize (length j)) rest)
   later m x js j rest h l e =
       let n = asked x .amount in
       let p : Pageable (js ++ j ∷ rest) = rw e (pageable s (h .within)) in
       let short = pageable-right js (j ∷ rest) p .1 .1 in
-      rw (list-reads s m j x h l, ← e, from-stored js j rest (p .0), fits-next (n - 4) j rest (omega (arith, l .wide)))
+      rw (list-reads s m j x h l, ← e, from-stored js j rest (p .0), fits-next (n - 4) j rest (omega (arith, l .wide)), same-self j)
 
   -- js are shown, the page just read brings new, and todo is what is left to show, new included
   onward : {f : Bool} {m : Memory} {r : Reading} {pages : List Reading} → Onward s f m r pages → Holds s m
@@ -149,9 +150,6 @@ walk-finds-all a xs ok w =
 
 abbrev calls : List Call
 calls = call (store (key 1) []) ∷ call (store (key 3) []) ∷ call (store (key 2) []) ∷ []
-
-abbrev list : Key → Request
-list k = request 0x06 k 44 (replicate 50 0xff)
 
 abbrev pages : List Reading
 pages = keys (key 1 ∷ key 2 ∷ []) ∷ keys (key 3 ∷ []) ∷ keys [] ∷ []

@@ -35,8 +35,8 @@ pub record Askable (a : Ask) : Type 0 where
   pub nsid-in : a .nsid < 2 ^ 32
   pub dword10-in : a .dword10 < 2 ^ 32
 
--- c is the command that was asked for. "... it writes zero ... in the fused bits, in key bytes past the key length, in Dword 10 of
--- Delete and Exist, and in options of all but Store."
+-- c is the command that was asked for, and what it does not have is zero: fused bits, key bytes behind the length, Dword 10 and options
+-- where the opcode has none
 pub record Asked (a : Ask) (c : Command) : Type 0 where
   pub opcode : c .opcode ≡ a .opcode
   pub fused : c .fused ≡ 0

@@ -31,6 +31,15 @@ memoryAfter a xs = leaves (begun a .after) xs
 abbrev pub storedAfter : Start → List Call → Namespace
 storedAfter a xs = stored (fresh (a .index) (a .id) (a .size)) (begun a .after) xs
 
+-- a state that calls change: what a call gives there, and where calls lead
+pub record System (Q : Type 0) : Type 0 where
+  pub does : Q → Call → Outcome
+  pub goes : Q → List Call → Q
+
+-- the module's own: its state is the memory that it is lent
+abbrev pub own : System Memory
+own = record { does = run; goes = leaves }
+
 -- ---- what memory shows
 
 -- s is within its limits, and the needed part of the memory is its image
@@ -59,19 +68,26 @@ pub record SamePairs (s t : Namespace) : Type 0 where
 -- ---- what calls do not do
 
 -- f says no of each call and its outcome
+abbrev pub neverOn : {Q : Type 0} → System Q → (Call → Outcome → Bool) → Q → List Call → Bool
+neverOn w f q [] = true
+neverOn w f q (x ∷ xs) = not (f x (w .does q x)) && neverOn w f (w .goes q (x ∷ [])) xs
+
 abbrev pub never : (Call → Outcome → Bool) → Memory → List Call → Bool
-never f m [] = true
-never f m (x ∷ xs) = not (f x (run m x)) && never f (run m x .after .memory) xs
+never = neverOn own
 
 -- it formats with success
 abbrev pub formats : Call → Outcome → Bool
 formats (formatting i id n) o = eqb (o .number) 0
 formats (commanding p e c b) o = false
 
+-- Store and Delete change what is stored; Retrieve, List and Exist only answer
+abbrev pub writes : ℕ → Bool
+writes op = isStore op || isDelete op
+
 -- it formats, stores or deletes with success
 abbrev pub changes : Call → Outcome → Bool
 changes (formatting i id n) o = eqb (o .number) 0
-changes (commanding p e c b) o = succeeded o && (isStore (readCommand e .opcode) || isDelete (readCommand e .opcode))
+changes (commanding p e c b) o = succeeded o && writes (readCommand e .opcode)
 
 -- it formats with success, or changes what is held under k
 abbrev pub touches : Key → Call → Outcome → Bool

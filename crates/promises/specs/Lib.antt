@@ -1,8 +1,12 @@
 pub mod Cases
 pub mod Histories
 pub mod Requests
+pub mod Calls
+pub mod Unread
 pub mod Walks
 pub mod Retrieves
 pub mod Agreement
 pub mod Unique
+pub mod Devices
+pub mod Demands
 pub mod StandIns

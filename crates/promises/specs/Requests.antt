@@ -1,16 +1,18 @@
 -- A command that a host sends, what refuses it before step i, and what it is answered. Assumes nothing.
 use mathlib.Core.Path.{_≡_}
-use mathlib.Core.Bool.{true}
+use mathlib.Core.Bool.{Bool, true, _&&_}
 use mathlib.Core.List.{List, _∷_}
-use Prim.Native.Nat.{ℕ}
+use Prim.Native.Nat.{ℕ, _%_}
+use lib.Dec.{eqb}
 use lib.ListN.{length, take}
 use Rattle.octets.specs.Keys.{Key}
 use Rattle.octets.specs.Tests.{firstOf}
 use Rattle.wire.specs.declared.entries.Command.{Command}
-use Rattle.wire.specs.Entry.{readCommand, keyOf, notEntry}
+use Rattle.wire.specs.Entry.{readCommand, keyOf, isStore, notEntry}
 use Rattle.wire.specs.Completion.{readCompletion, notCompletion}
 use Rattle.store.specs.Namespace.{Namespace}
 use Rattle.commands.specs.Steps.{viewOf, steps}
+use Rattle.commands.specs.Answer.{Answer}
 use Rattle.memory.specs.Memory.{Memory}
 use Rattle.commands.specs.Command.{Post, Outcome}
 use Rattle.commands.specs.History.{Call, commanding, run}
@@ -29,6 +31,10 @@ sends m x = run m (call x)
 
 abbrev pub asked : Request → Command
 asked x = readCommand (x .entry)
+
+-- a Store that asks for its key to be held and to be absent
+abbrev pub bothBits : Command → Bool
+bothBits c = isStore (c .opcode) && eqb (c .options % 4) 3
 
 -- steps a to h are the table's first nine rows
 abbrev pub rowsToH : ℕ
@@ -51,3 +57,7 @@ pub record Gives (st n : ℕ) (b : List ℕ) (o : Outcome) : Type 0 where
   pub status : readCompletion (o .after .completion) .status ≡ st
   pub dword0 : readCompletion (o .after .completion) .dword0 ≡ n
   pub buffer : o .after .buffer ≡ b
+
+-- as a command on the map is answered
+abbrev pub Answered : Answer → Outcome → Type 0
+Answered a o = Gives (a .status) (a .dword0) (a .buffer) o

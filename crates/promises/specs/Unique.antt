@@ -1,4 +1,4 @@
--- "Proofs show that no two differing outcomes satisfy it": said of a contract itself, as the prover reads it off the source. Assumes nothing.
+-- A contract leaves one outcome: said of the contract itself, as the prover reads it off the source. Assumes nothing.
 use mathlib.Core.Path.{_≡_}
 use mathlib.Core.List.{List}
 use Prim.Native.Nat.{ℕ}

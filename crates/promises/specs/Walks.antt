@@ -1,26 +1,35 @@
 -- A host's walk over the keys: it Lists from the empty key, then each time from the last key it was shown, until a page brings no new
 -- key. Assumes nothing.
 use mathlib.Core.Path.{_≡_}
-use mathlib.Core.Bool.{Bool, true, false}
+use mathlib.Core.Bool.{Bool, true, false, cond}
 use mathlib.Core.List.{List, [], _∷_, _++_}
 use Prim.Native.Nat.{_+_, _≤_}
-use lib.ListN.{length, drop}
+use lib.ListN.{length}
+use Rattle.octets.specs.Octets.{same}
 use Rattle.octets.specs.Keys.{Key}
 use Rattle.wire.specs.Page.{Reading, refused, keys, behind, readPage}
 use Rattle.store.specs.Namespace.{Namespace}
 use Rattle.memory.specs.Memory.{Memory}
-use Rattle.commands.specs.History.{Call, leaves}
-use Rattle.promises.specs.Histories.{never, changes}
-use Rattle.promises.specs.Requests.{Request, sends, asked, Proper}
+use Rattle.commands.specs.History.{Call}
+use Rattle.promises.specs.Histories.{System, own, neverOn, changes}
+use Rattle.promises.specs.Requests.{Request, call, asked, Proper}
 
 -- the page that a List leaves in its data buffer, as the host's reader finds it
-abbrev pub pageRead : Memory → Request → Reading
-pageRead m x = readPage (sends m x .after .buffer)
+abbrev pub pageOn : {Q : Type 0} → System Q → Q → Request → Reading
+pageOn w q x = readPage (w .does q (call x) .after .buffer)
 
--- the new keys of a later page, whose first key is the one shown before
-abbrev pub newOn : Reading → Reading
-newOn (refused n) = refused n
-newOn (keys ks) = keys (drop 1 ks)
+abbrev pub pageRead : Memory → Request → Reading
+pageRead = pageOn own
+
+-- a page that spoils a walk though its reader does not refuse it
+abbrev pub spoilt : Reading
+spoilt = refused 0
+
+-- the new keys of a later page, whose first key is k, the one shown last; a page that begins otherwise spoils the walk
+abbrev pub newOn : Key → Reading → Reading
+newOn k (refused n) = refused n
+newOn k (keys []) = spoilt
+newOn k (keys (j ∷ ks)) = cond (same j k) (keys ks) spoilt
 
 abbrev pub lastOf : Key → List Key → Key
 lastOf k [] = k
@@ -37,21 +46,28 @@ pub record Lists (s : Namespace) (k : Key) (x : Request) : Type 0 where
   pub proper : Proper s 0x06 k x
   pub wide : 44 ≤ asked x .amount
 
--- The new keys page by page, where memory is m and the page just read brought r; other calls may stand between two Lists.
+-- The new keys page by page, from the state m on, where the page just read brought r; other calls may stand between two Lists.
 -- true: that page brought no new key; false: the host has not gone on yet.
-pub data Onward (s : Namespace) : Bool → Memory → Reading → List Reading → Type 0 where
-  ended : {m : Memory} → Onward s true m (keys []) (keys [] ∷ [])
-  paused : {m : Memory} {r : Reading} → Onward s false m r (r ∷ [])
-  next : {f : Bool} {m : Memory} {k : Key} {ks : List Key} {pages : List Reading} (xs : List Call) (x : Request)
-      → never changes m xs ≡ true → Lists s (lastOf k ks) x
-      → Onward s f (sends (leaves m xs) x .after .memory) (newOn (pageRead (leaves m xs) x)) pages
-      → Onward s f m (keys (k ∷ ks)) (keys (k ∷ ks) ∷ pages)
+pub data OnwardOn {Q : Type 0} (w : System Q) (s : Namespace) : Bool → Q → Reading → List Reading → Type 0 where
+  ended : {m : Q} → OnwardOn w s true m (keys []) (keys [] ∷ [])
+  paused : {m : Q} {r : Reading} → OnwardOn w s false m r (r ∷ [])
+  next : {f : Bool} {m : Q} {k : Key} {ks : List Key} {pages : List Reading} (xs : List Call) (x : Request)
+      → neverOn w changes m xs ≡ true → Lists s (lastOf k ks) x
+      → OnwardOn w s f (w .goes (w .goes m xs) (call x ∷ [])) (newOn (lastOf k ks) (pageOn w (w .goes m xs) x)) pages
+      → OnwardOn w s f m (keys (k ∷ ks)) (keys (k ∷ ks) ∷ pages)
 
--- on memory m, where s is stored
-pub record Walk (s : Namespace) (m : Memory) (f : Bool) (pages : List Reading) : Type 0 where
+-- in the state m, where s is stored
+pub record WalkOn {Q : Type 0} (w : System Q) (s : Namespace) (m : Q) (f : Bool) (pages : List Reading) : Type 0 where
   pub first : Request
   pub lists : Lists s [] first
-  pub onward : Onward s f (sends m first .after .memory) (pageRead m first) pages
+  pub onward : OnwardOn w s f (w .goes m (call first ∷ [])) (pageOn w m first) pages
+
+-- of the module
+abbrev pub Onward : Namespace → Bool → Memory → Reading → List Reading → Type 0
+Onward = OnwardOn own
+
+abbrev pub Walk : Namespace → Memory → Bool → List Reading → Type 0
+Walk = WalkOn own
 
 -- the keys found are a beginning of ks, and ks themselves at the end; no walk takes more Lists than one more than there are keys
 pub record Finds (f : Bool) (ks : List Key) (pages : List Reading) : Type 0 where

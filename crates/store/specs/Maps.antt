@@ -41,7 +41,7 @@ present k m = isSome (lookup k m)
 abbrev pub valueOf : Key → List Pair → List ℕ
 valueOf k m = Option·getD (lookup k m) []
 
--- used room: the sum of key length and value length over the pairs
+-- used room: the bytes of all keys and of all values
 abbrev pub used : List Pair → ℕ
 used [] = 0
 used (p ∷ m) = length (p .key) + length (p .value) + used m

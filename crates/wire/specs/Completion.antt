@@ -8,7 +8,7 @@ use Rattle.octets.specs.Octets.{part, number, bytes, zeros}
 use Rattle.octets.specs.Tests.{Row, row}
 use Rattle.wire.specs.declared.completions.Completion.{Completion}
 
--- phase in bit 0, status code in 8:1, status code type in 11:9, the rest zero
+-- the last two bytes: phase 0, status 8:1, type 11:9
 abbrev pub word : Completion → ℕ
 word c = c .phase % 2 + 2 * c .status + 512 * c .kind
 

@@ -34,7 +34,7 @@ dwordsOf c = bytes 4 (c .amount) ++ (c .len ∷ []) ++ (c .options ∷ []) ++ ze
 unfoldable pub writeCommand : Command → List ℕ
 writeCommand c = frontOf c ++ part 0 8 (c .key) ++ zeros 24 ++ dwordsOf c ++ part 8 8 (c .key)
 
--- key bytes past the key length are not looked at
+-- what stands behind the key length is no part of the key
 abbrev pub keyOf : Command → Key
 keyOf c = take (c .len) (c .key)
 
@@ -58,7 +58,7 @@ isExist op = eqb op 0x14
 abbrev pub known : ℕ → Bool
 known op = isStore op || isRetrieve op || isList op || isDelete op || isExist op
 
--- Store options: bit 0, only if the key exists; bit 1, only if it does not
+-- options of a Store: bit 0 wants the key to be there, bit 1 wants it not to be
 abbrev pub ifPresent : Command → Bool
 ifPresent c = isStore (c .opcode) && eqb (c .options % 2) 1
 

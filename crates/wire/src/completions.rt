@@ -1,4 +1,4 @@
-// The 16-byte completion. Its word "is built and taken apart by shifts and masks, with type in 11:9".
+// The 16-byte completion. Shifts and masks join the parts of its last word and take it apart.
 use octets::words;
 ghost use mathlib.Core.Path.{_≡_};
 ghost use Prim.Native.Nat.{_<_};
@@ -16,7 +16,7 @@ pub struct Completion {
     pub kind: u8,
 }
 
-// "... of phase only the lowest bit counts."
+// A phase above 1 counts by its lowest bit.
 fn pack(c: Completion) -> u16
     requires { ⌜ c .kind < 8 ⌝ }
     ensures { λ r. ⌜ r ≡ word c ⌝ }

@@ -16,7 +16,7 @@ pub const DELETE: u8 = 0x10;
 
 pub const EXIST: u8 = 0x14;
 
-// "The read command is a struct with its sixteen key bytes as an array and their length beside it"; amount is Dword 10.
+// What an entry says; the key is the first `len` of its sixteen bytes, amount is Dword 10.
 pub struct Command {
     pub opcode: u8,
     pub fused: u8,

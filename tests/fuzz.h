@@ -1,0 +1,68 @@
+/* What the files of the fuzzer share: the memory that both sides are lent, chance, comparing, and the calls. */
+#ifndef FUZZ_H
+#define FUZZ_H
+
+#include "model.h"
+
+int printf(const char *, ...);
+void *memcpy(void *, const void *, size_t);
+void *memset(void *, int, size_t);
+int memcmp(const void *, const void *, size_t);
+
+/* ---- fuzz_calls.c */
+
+enum { SPARE = 64, DATA = 24 * 1024 }; /* the longest page, 1024 keys of 16 bytes, has 20,484 bytes */
+
+/* What the calls can write. Both sides are lent the same bytes; all of it is compared after each of the device's calls, and after
+ * the host's what they were lent. */
+struct side {
+    uint8_t directory[64 + 32 * 1024 + SPARE], values[65536 + SPARE], data[DATA], completion[16 + SPARE], entry[64 + SPARE];
+};
+
+extern struct side real, model;
+extern struct model_store *held, *seen; /* `held` is the map by the history, `seen` the one that the memory holds */
+extern int intact;                      /* the memory is the image of `held` */
+extern size_t directory_len, values_len;
+extern uint64_t seed, state, calls; /* where chance began and where it is, and the calls so far */
+
+uint64_t next(void);
+uint32_t below(uint64_t n);
+int one_in(uint32_t n);
+void rubbish(uint8_t *a, uint8_t *b, size_t n); /* the same bytes for both */
+
+_Noreturn void differ(const char *what, uint64_t got, uint64_t expected);
+void number(const char *what, uint64_t got, uint64_t expected);
+uint32_t get16(const uint8_t *p);
+
+/* Each makes a call on both sides and ends the program where they differ. `command` returns the status, or 100h where a number was
+ * given. */
+uint32_t format(uint32_t index, uint32_t id, uint64_t size, size_t dlen, size_t vlen);
+uint32_t command(size_t entry_len, size_t completion_len, size_t room, size_t dlen, size_t vlen);
+uint32_t build(size_t entry_len, uint8_t opcode, uint32_t nsid, const uint8_t *key, size_t key_len, uint32_t dword10,
+               uint8_t options);
+struct kv_completion read_completion(const uint8_t *completion, size_t len);
+struct kv_page_key read_page(const uint8_t *page, size_t len, uint32_t ordinal);
+
+int report_calls(void); /* prints the counters; returns how many of them say that something did not occur */
+
+/* ---- fuzz_commands.c */
+
+extern uint64_t salt;                 /* what a history's keys are drawn from */
+extern uint32_t pool, letters;        /* how many keys there are to draw, and of how many different bytes */
+extern uint32_t spite, storing, full; /* faults in 1000, Stores in 100, and whether to fill the store to its last slot */
+extern int walking, quiet;            /* within a walk the slices are lent whole; in a quiet one no call changes the store */
+
+uint32_t any_command(void); /* returns what `command` does */
+void bad_format(void);
+
+/* ---- fuzz_damage.c */
+
+void pages(uint32_t amount); /* reads a List page as it came, then damaged in one way or several */
+void damaged(void);          /* damages the memory and gives commands on it */
+
+/* ---- fuzz_walks.c */
+
+void any_walk(void);
+int report_walks(void); /* as `report_calls` */
+
+#endif
