@@ -170,7 +170,8 @@ static int step(const uint8_t *e, uint8_t *data, size_t data_len, uint8_t *direc
     uint32_t slot = find(&s, wide_at(key), len, &held);
     if (!held && (retrieve | delete | exist | (store && options & 1))) return 0x87;
     if (held && store && options & 2) return 0x89;
-    if (store && ((!held && s.h.count >= s.maxkeys) || (uint64_t)s.used + len + amount > s.h.size)) return 0x81;
+    uint32_t old = held ? len + load32(s.records + 32 * slot + 24) : 0;
+    if (store && ((!held && s.h.count >= s.maxkeys) || (uint64_t)s.used - old + len + amount > s.h.size)) return 0x81;
     if (store) {
         if (held) erase(&s, slot);
         insert(&s, slot, key, len, data, amount);

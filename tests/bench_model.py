@@ -45,7 +45,7 @@ class Module:
 
     def refusal(self, op, fused, nsid, key, length, amount, options, room):
         """Steps b to j; a cannot be."""
-        used = sum(len(k) + len(v) for k, v in self.pairs.items())
+        used = sum(len(k) + len(v) for k, v in self.pairs.items() if k != key)  # a pair that is replaced is out by then
         held = key in self.pairs
         if op not in (STORE, RETRIEVE, LIST, DELETE, EXIST):
             return 0x01
@@ -198,10 +198,20 @@ def cases():
     yield entry(STORE, b, 4097) + b"\x14" * 4096
     yield entry(STORE, b, 0xFFFFFFFF) + b"\x02" * 4096
     yield entry(RETRIEVE, b, 4096)
-    # 81h: keys of 16 bytes with values of 64, until one does not fit; a replaced pair still counts as used
+    # 81h: keys of 16 bytes with values of 64, until one does not fit
     for i in range(52):
         yield store(b"key %012d" % i, bytes([i]) * 64)
-    yield store(b"key %012d" % 0, b"")
+    # full to the last byte, which "r" takes: an equal value, a shorter one, and longer ones with and without the byte given back
+    first = b"key %012d" % 0
+    yield store(b"r", b"")
+    yield store(b"s", b"")
+    yield store(b"r", b"!")
+    yield store(first, b"\1" * 64)
+    yield store(first, b"\2" * 63)
+    yield store(b"r", b"!")
+    yield store(first, b"\3" * 64)
+    yield entry(RETRIEVE, first, 64)
+    yield store(first, b"")
     yield store(b, bytes(64))
     yield entry(LIST, b"key", 200)
     yield entry(LIST, b"", 4096)

@@ -104,7 +104,7 @@ static void cases(void) {
     expect("P8", command(KV_EXIST, 0, "01234", 4, 0, 0) == 0x87 && command(KV_EXIST, 0, "01234", 5, 0, 0) == 0x86);
     format(3, 10);
     expect("P9", store(0, "A", 1, 10) == 0x81 && store(0, "A", 1, 9) == 0);
-    expect("P10", store(0, "A", 1, 1) == 0x81);
+    expect("P10", store(0, "A", 1, 10) == 0x81 && store(0, "A", 1, 9) == 0 && store(0, "A", 1, 1) == 0 && store(0, "A", 1, 9) == 0);
     format(3, 4096);
     expect("P11", store(3, "A", 1, 0) == 0x87 && store(0, "A", 1, 0) == 0 && store(3, "A", 1, 0) == 0x89);
     memcpy(data, "\1\2\3\4\5", 5);
@@ -129,6 +129,13 @@ static void fill(uint32_t index, uint32_t size, uint32_t v, uint32_t want) {
         }
     }
     expect("filled", n == want);
+    for (uint32_t i = 0; i < n; i += n - 1) { /* the first and the last again, and with more than there is room for */
+        uint32_t k = i * 2654435761u, left = size - n * (4 + v), most = 64u << index / 4 * 2;
+        memcpy(key, &k, 4);
+        memset(data, i & 255, sizeof data);
+        expect("again", command(KV_STORE, 0, key, 4, v, v) == 0);
+        if (v + left < most) expect("again, one more", command(KV_STORE, 0, key, 4, v + left + 1, v + left + 1) == 0x81);
+    }
     for (uint32_t i = 0; i < n; i++) {
         uint32_t k = i * 2654435761u;
         memcpy(key, &k, 4);

@@ -37,6 +37,7 @@ static void history(uint64_t ordinal) {
             read_completion(real.completion, one_in(2) ? 16 : below(16 + SPARE));
         } else any_command();
     }
+    if (intact && one_in(4)) any_again();
     if (intact) any_walk();
 }
 
@@ -46,6 +47,7 @@ int main(int argc, char **argv) {
     state = seed;
     for (uint64_t i = 0; calls < wanted; i++) history(i);
     int missing = report_calls();
+    missing += report_again();
     missing += report_walks();
     if (missing > 0) printf("FAILED: %d of these did not occur\n", missing);
     printf("compared with the model: %llu calls, 0 mismatches\n", (unsigned long long)calls);

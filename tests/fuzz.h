@@ -60,6 +60,11 @@ void bad_format(void);
 void pages(uint32_t amount); /* reads a List page as it came, then damaged in one way or several */
 void damaged(void);          /* damages the memory and gives commands on it */
 
+/* ---- fuzz_again.c */
+
+void any_again(void);   /* fills the store to its last byte and stores held keys again */
+int report_again(void); /* as `report_calls` */
+
 /* ---- fuzz_walks.c */
 
 void any_walk(void);

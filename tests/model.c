@@ -223,7 +223,8 @@ static uint32_t status_of(struct model_store *s, const uint8_t *entry, uint8_t *
     if (present && opcode == STORE && options / 2 % 2 == 1) return 0x89;
     if (opcode == STORE) {
         if (!present && s->count == model_max_keys(s->index)) return 0x81;
-        if (model_used(s) + len + amount > s->size) return 0x81; /* step j: the old pair is not taken off */
+        uint32_t old = present ? s->pairs[at].key_len + s->pairs[at].value_len : 0; /* goes out before the new pair comes in */
+        if (model_used(s) - old + len + amount > s->size) return 0x81;
         set(s, at, present, key, len, data, amount);
     } else if (opcode == RETRIEVE) {
         uint32_t n = s->pairs[at].value_len;

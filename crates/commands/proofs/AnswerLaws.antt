@@ -14,7 +14,7 @@ use Rattle.store.specs.Maps.{insert, present}
 use Rattle.store.specs.Namespace.{Namespace, withPairs}
 use Rattle.store.proofs.MapLaws.{insert-rising}
 use Rattle.store.proofs.NamespaceLaws.{Within, insert-admitted}
-use Rattle.store.proofs.CountLaws.{insert-count, insert-used, erase-less, erase-within}
+use Rattle.store.proofs.CountLaws.{insert-count, insert-used, erase-used, erase-within}
 use Rattle.commands.specs.Steps.{viewOf, statusOf}
 use Rattle.commands.specs.Answer.{answer}
 use Rattle.commands.proofs.StepLaws.{Passed, passed}
@@ -49,7 +49,7 @@ store-within s c b w l o p =
       rising = insert-rising k v m (w .rising);
       admitted = insert-admitted (s .index) k v m (omega arith) (omega (arith, p .short)) (omega (arith, p .value o)) (w .admitted);
       count = rw insert-count (counted (present k m) (w .count) (p .slot o));
-      room = omega (arith, insert-used k v m, erase-less k m .1, p .room o);
+      room = omega (arith, insert-used k v m, erase-used k m, p .room o);
     }
   where
     counted : {n c : ℕ} (b : Bool) → n ≤ c → (not b && leb c n) ≡ false → cond b n (suc n) ≤ c

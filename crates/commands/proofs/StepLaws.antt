@@ -2,7 +2,7 @@
 -- Assumes nothing.
 use mathlib.Core.Path.{_≡_, refl}
 use mathlib.Core.Bool.{Bool, true, false, not, _&&_, _||_, and-true}
-use Prim.Native.Nat.{ℕ, _+_, _≤_, _<_}
+use Prim.Native.Nat.{ℕ, _+_, _-_, _≤_, _<_}
 use native.Mathlib.Omega.{arith}
 use lib.Dec.{leb, ltb, eqb}
 use borrow.Author.Tests.{ltb-false, eqb-true, eqb-false, not-false}
@@ -38,7 +38,7 @@ pub record Passed (v : View) (c : Command) : Type 0 where
   pub absent : ifAbsent c ≡ true → v .held ≡ false
   -- j
   pub slot : isStore (c .opcode) ≡ true → (not (v .held) && leb (v .format .maxkeys) (v .count)) ≡ false
-  pub room : isStore (c .opcode) ≡ true → v .used + c .len + c .amount ≤ v .size
+  pub room : isStore (c .opcode) ≡ true → v .used - v .old + c .len + c .amount ≤ v .size
 
 right-false : (a b : Bool) → (a && b) ≡ false → a ≡ true → b ≡ false
 right-false true b e h = e
@@ -74,14 +74,14 @@ passed v c none =
       held = λ o. not-false (v .held) (right-false _ _ (i .0) o);
       absent = right-false _ _ (i2 .0);
       slot = λ o. neither slots room (right-false _ _ (j .0) o) .0;
-      room = λ o. ltb-false (v .size) (v .used + c .len + c .amount) (neither slots room (right-false _ _ (j .0) o) .1);
+      room = λ o. ltb-false (v .size) (v .used - v .old + c .len + c .amount) (neither slots room (right-false _ _ (j .0) o) .1);
     }
   where
     slots : Bool
     slots = not (v .held) && leb (v .format .maxkeys) (v .count)
 
     room : Bool
-    room = ltb (v .size) (v .used + c .len + c .amount)
+    room = ltb (v .size) (v .used - v .old + c .len + c .amount)
 
 pub status-byte : (ok : Bool) (s : Namespace) (c : Command) (n : ℕ) → statusOf ok s c n < 256
 unfolding statusOf steps

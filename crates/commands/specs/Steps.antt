@@ -1,8 +1,8 @@
 -- The module's statuses: the table of steps a to j (docs/MANUAL.md, section 7), row by row and in its order. `View` is what they look at
 -- beside the command. Assumes nothing.
 use mathlib.Core.Bool.{Bool, not, _&&_, _||_}
-use mathlib.Core.List.{List, [], _∷_}
-use Prim.Native.Nat.{ℕ, _+_}
+use mathlib.Core.List.{List, [], _∷_, _++_}
+use Prim.Native.Nat.{ℕ, _+_, _-_}
 use lib.ListN.{length}
 use lib.Dec.{leb, ltb, eqb}
 use Rattle.octets.specs.Tests.{Row, row, firstOf}
@@ -11,15 +11,16 @@ use Rattle.wire.specs.Entry.{keyOf, isStore, isRetrieve, isList, isDelete, isEx
 use Rattle.commands.specs.declared.steps.View.{View}
 use Rattle.commands.specs.declared.steps.Row.{Row as CodeRow}
 use Rattle.store.specs.Formats.{formatOf}
-use Rattle.store.specs.Maps.{present, used}
+use Rattle.store.specs.Maps.{present, used, heldRoom}
 use Rattle.store.specs.Namespace.{Namespace}
 
 -- a row of the code's table
 abbrev pub rowOf : CodeRow → Row
 rowOf r = row (r .0) (r .1)
 
-unfoldable pub steps : View → Command → List Row
-steps v c =
+-- what is asked of a command before its key is looked for
+abbrev pub stepsToH : View → Command → List Row
+stepsToH v c =
     let op = c .opcode in
     let f = v .format in
     -- a
@@ -40,13 +41,24 @@ steps v c =
     ∷ row (isList op && ltb (c .amount) 4) 0x02
     -- h
     ∷ row ((isStore op || isRetrieve op || isList op) && ltb (v .room) (c .amount)) 0x04
-    -- i, no such key
-    ∷ row ((isRetrieve op || isDelete op || isExist op || ifPresent c) && not (v .held)) 0x87
-    -- i, the key is there
-    ∷ row (ifAbsent c && v .held) 0x89
-    -- j: no slot left, or no room
-    ∷ row (isStore op && (not (v .held) && leb (f .maxkeys) (v .count) || ltb (v .size) (v .used + c .len + c .amount))) 0x81
     ∷ []
+
+-- no such key, or the key is there
+abbrev pub stepI : View → Command → List Row
+stepI v c =
+    row ((isRetrieve (c .opcode) || isDelete (c .opcode) || isExist (c .opcode) || ifPresent c) && not (v .held)) 0x87
+    ∷ row (ifAbsent c && v .held) 0x89
+    ∷ []
+
+-- no slot left, or no room once the old pair is taken off
+abbrev pub stepJ : View → Command → List Row
+stepJ v c =
+    row (isStore (c .opcode)
+    && (not (v .held) && leb (v .format .maxkeys) (v .count) || ltb (v .size) (v .used - v .old + c .len + c .amount))) 0x81
+    ∷ []
+
+unfoldable pub steps : View → Command → List Row
+steps v c = stepsToH v c ++ stepI v c ++ stepJ v c
 
 -- of a namespace, with a data buffer of n bytes
 abbrev pub viewOf : Bool → Namespace → Command → ℕ → View
@@ -58,6 +70,7 @@ viewOf legal s c n =
       size = s .size;
       count = length (s .pairs);
       used = used (s .pairs);
+      old = heldRoom (keyOf c) (s .pairs);
       held = present (keyOf c) (s .pairs);
       room = n;
     }

@@ -3,6 +3,7 @@ use crate::effects::perform;
 use crate::steps::View;
 use crate::steps::decide;
 use memory::checks::check;
+use memory::looks::held_room;
 use memory::looks::look_up;
 use wire::completions::Completion;
 use wire::completions::write_completion;
@@ -28,6 +29,7 @@ fn respond(c: Command, buffer: &mut [u8], directory: &mut [u8], values: &mut [u8
     let k = check(directory, values);
     let key = c.key;
     let f = look_up(directory, k, key, c.len);
+    let old = held_room(directory, k, f);
     let format = k.format;
     let v = View {
         legal: k.ok,
@@ -36,6 +38,7 @@ fn respond(c: Command, buffer: &mut [u8], directory: &mut [u8], values: &mut [u8
         size: k.label.size,
         count: k.label.count,
         used: k.used,
+        old,
         held: f.held,
         room: buffer.len(),
     };

@@ -8,11 +8,12 @@ use wire::entries::RETRIEVE;
 use wire::entries::STORE;
 ghost use mathlib.Core.Path.{_≡_};
 ghost use mathlib.Core.List.{map};
+ghost use Prim.Native.Nat.{_≤_};
 ghost use Rattle.octets.specs.Tests.{firstOf};
 ghost use Rattle.commands.specs.Steps.{rowOf, steps};
 
-// What the steps look at beside the command: whether memory is legal, the namespace's numbers, the used room, whether the key is held,
-// and the length of the data buffer.
+// What the steps look at beside the command: whether memory is legal, the namespace's numbers, the used room, the room of the pair that
+// the key holds, whether it is held, and the length of the data buffer.
 pub struct View {
     pub legal: bool,
     pub format: Format,
@@ -20,6 +21,7 @@ pub struct View {
     pub size: u32,
     pub count: u32,
     pub used: u32,
+    pub old: u64,
     pub held: bool,
     pub room: usize,
 }
@@ -43,6 +45,7 @@ fn first_of(rows: [Row; 12]) -> u8
 }
 
 pub fn decide(c: Command, v: View) -> u8
+    requires { ⌜ v .old ≤ v .used ⌝ }
     ensures { λ r. ⌜ r ≡ firstOf (steps v c) ⌝ }
 {
     let f = v.format;
@@ -52,7 +55,7 @@ pub fn decide(c: Command, v: View) -> u8
     let delete = c.opcode == DELETE;
     let exist = c.opcode == EXIST;
     let short = v.room < c.amount as usize;
-    let exceeds = (v.size as u64) < v.used as u64 + c.len as u64 + c.amount as u64;
+    let exceeds = (v.size as u64) < v.used as u64 - v.old + c.len as u64 + c.amount as u64;
     let if_present = store & (c.options % 2 == 1);
     let if_absent = store & (c.options / 2 % 2 == 1);
     first_of([

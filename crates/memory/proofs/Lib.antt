@@ -2,3 +2,4 @@
 pub mod FormatLaws
 pub mod ImageLaws
 pub mod LegalLaws
+pub mod RoomLaws

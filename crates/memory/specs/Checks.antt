@@ -2,7 +2,7 @@
 use mathlib.Core.Path.{_≡_}
 use mathlib.Core.Bool.{Bool, true, false, cond, _||_}
 use mathlib.Core.List.{List, [], _∷_}
-use Prim.Native.Nat.{ℕ, _-_, _≤_}
+use Prim.Native.Nat.{ℕ, _+_, _*_, _-_, _≤_, _<_}
 use lib.Dec.{leb, ltb, eqb}
 use lib.ListN.{length, take, drop}
 use Rattle.octets.specs.Keys.{Key}
@@ -13,6 +13,7 @@ use Rattle.store.specs.declared.finds.Found.{Found}
 use Rattle.store.specs.Formats.{formatOf}
 use Rattle.store.specs.Maps.{keys, values, used, insert}
 use Rattle.store.specs.Namespace.{Namespace, withPairs, within}
+use Rattle.store.specs.Records.{valueLength}
 use Rattle.store.specs.Finds.{rank, hasKey, keysIn, foundKey, KeysFit}
 use Rattle.memory.specs.declared.measures.Measured.{Measured}
 use Rattle.memory.specs.declared.checks.Checked.{Checked}
@@ -104,6 +105,14 @@ pub record CanErase (k : Checked) (f : Found) (d v : List ℕ) : Type 0 where
   pub legal : Legal k d v
   pub looked : Looked f (keys (pairsOf (memory d v)))
   pub held : f .held ≡ true
+
+-- the room of the pair that the key of f holds, as its slot says
+abbrev pub roomAt : Checked → Found → List ℕ → ℕ
+roomAt k f d = cond (f .held) (f .len + valueLength (drop (32 * f .slot) (recordsAt k d))) 0
+
+pub record CanWeigh (k : Checked) (f : Found) (d : List ℕ) : Type 0 where
+  pub look : CanLook k d
+  pub slot : f .held ≡ true → f .slot < k .label .count
 
 pub record CanHand (k : Checked) (f : Found) (n : ℕ) (d v b : List ℕ) : Type 0 where
   pub erases : CanErase k f d v

@@ -1,17 +1,19 @@
-// The map read: a key looked up, a value handed over, keys listed.
+// The map read: a key looked up, its pair's room, a value handed over, keys listed.
 use crate::checks::Checked;
 use crate::lists::write_list;
 use store::finds::Found;
 use store::finds::find;
 use store::reads::copy_value;
+use store::records::value_length_at;
 ghost use mathlib.Core.Path.{_≡_};
+ghost use Prim.Native.Nat.{_+_};
 ghost use lib.ListN.{length, take};
 ghost use Rattle.octets.specs.Octets.{put};
 ghost use Rattle.wire.specs.Page.{page, shown};
 ghost use Rattle.store.specs.Maps.{valueOf};
 ghost use Rattle.store.specs.Finds.{found, foundKey};
 ghost use Rattle.memory.specs.Memory.{memory, pairsOf};
-ghost use Rattle.memory.specs.Checks.{keysAt, CanLook, CanHand, CanList};
+ghost use Rattle.memory.specs.Checks.{keysAt, roomAt, CanLook, CanWeigh, CanHand, CanList};
 
 // In memory that is not legal no key is found.
 pub fn look_up(directory: &[u8], k: Checked, key: [u8; 16], len: u8) -> Found
@@ -21,6 +23,26 @@ pub fn look_up(directory: &[u8], k: Checked, key: [u8; 16], len: u8) -> Found
     let start = k.start;
     let end = k.end;
     find(&directory[start..end], k.label.count, key, len)
+}
+
+// The bytes of a pair.
+fn pair_room(len: u8, value: u32) -> u64
+    ensures { λ r. ⌜ r ≡ len + value ⌝ }
+{
+    len as u64 + value as u64
+}
+
+// The room of the pair that the key looked up holds, none where it is absent.
+pub fn held_room(directory: &[u8], k: Checked, f: Found) -> u64
+    requires { ⌜ CanWeigh k f (now directory) ⌝ }
+    ensures { λ r. ⌜ r ≡ roomAt k f (now (directory .entry)) ⌝ }
+{
+    let start = k.start;
+    let end = k.end;
+    if f.held {
+        return pair_room(f.len, value_length_at(&directory[start..end], f.slot));
+    }
+    0
 }
 
 // The smaller of `amount` and the value's length, to the front of the buffer; the answer is the whole length.

@@ -2,6 +2,7 @@
 pub mod History
 pub mod Walk
 pub mod Retrieve
+pub mod StoreAgain
 pub mod Answers
 pub mod NeverStored
 pub mod Refusals

@@ -3,15 +3,15 @@
 use mathlib.Core.Path.{_≡_, refl, sym, ap, _∙_}
 use mathlib.Core.Bool.{true}
 use mathlib.Core.List.{List, [], _∷_, _++_}
-use Prim.Native.Nat.{_^_, _<_}
-use lib.ListN.{length, take, drop}
-use borrow.Author.Tests.{eqb-true, not-false}
+use Prim.Native.Nat.{_^_, _≤_, _<_}
+use lib.ListN.{length}
+use borrow.Author.Tests.{eqb-true, ltb-false, not-false}
 use Rattle.octets.specs.Tests.{Row, firstOf}
 use Rattle.octets.proofs.TestLaws.{None, none-holds}
 use Rattle.wire.specs.Entry.{notEntry}
 use Rattle.wire.specs.Completion.{notCompletion}
 use Rattle.store.specs.Namespace.{Namespace, fresh}
-use Rattle.commands.specs.Steps.{viewOf, steps, statusOf}
+use Rattle.commands.specs.Steps.{steps, stepsToH, stepI, stepJ, statusOf}
 use Rattle.commands.specs.Answer.{Answer, answer}
 use Rattle.memory.specs.Memory.{Memory}
 use Rattle.commands.proofs.AnswerLaws.{answer-status}
@@ -20,7 +20,7 @@ use Rattle.commands.proofs.CommandLaws.{format-holds}
 use Rattle.commands.proofs.HistoryLaws.{told-calls, call-number, call-status, call-dword0, call-buffer}
 use Rattle.commands.specs.History.{Call}
 use Rattle.promises.specs.Histories.{Start, begun, memoryAfter, storedAfter}
-use Rattle.promises.specs.Requests.{Request, sends, asked, rowsToH, refusal, Gives}
+use Rattle.promises.specs.Requests.{Request, sends, asked, viewAt, refusal, Gives}
 
 pub holds-after : (a : Start) (xs : List Call) → begun a .number ≡ 0 → Holds (storedAfter a xs) (memoryAfter a xs)
 holds-after a xs ok =
@@ -28,17 +28,14 @@ holds-after a xs ok =
 
 -- ---- a request that nothing before step i refuses
 
-none-first : (rs qs : List Row) → None rs → firstOf (rs ++ qs) ≡ firstOf qs
+pub none-first : (rs qs : List Row) → None rs → firstOf (rs ++ qs) ≡ firstOf qs
 none-first [] qs n = refl
 none-first (r ∷ rs) qs n = rw (n .0) (none-first rs qs (n .1))
 
 module _ (s : Namespace) (x : Request) (e : refusal s x ≡ 0) where
-  abbrev rows : List Row
-  rows = steps (viewOf true s (asked x) (length (x .buffer))) (asked x)
-
-  none : None (notEntry (x .entry) ∷ notCompletion (x .completion) ∷ take rowsToH rows)
-  unfolding refusal steps
-  none = none-holds (notEntry (x .entry) ∷ notCompletion (x .completion) ∷ take rowsToH rows) tt e
+  none : None (notEntry (x .entry) ∷ notCompletion (x .completion) ∷ stepsToH (viewAt s x) (asked x))
+  unfolding refusal
+  none = none-holds (notEntry (x .entry) ∷ notCompletion (x .completion) ∷ stepsToH (viewAt s x) (asked x)) tt e
 
   pub entry-64 : length (x .entry) ≡ 64
   entry-64 = eqb-true (length (x .entry)) 64 (not-false _ (none .0))
@@ -46,9 +43,12 @@ module _ (s : Namespace) (x : Request) (e : refusal s x ≡ 0) where
   pub completion-16 : length (x .completion) ≡ 16
   completion-16 = eqb-true (length (x .completion)) 16 (not-false _ (none .1 .0))
 
-  pub later-steps : statusOf true s (asked x) (length (x .buffer)) ≡ firstOf (drop rowsToH rows)
+  pub key-short : asked x .len ≤ 16
+  key-short = ltb-false 16 (asked x .len) (none .1 .1 .1 .1 .1 .1 .0)
+
+  pub later-steps : statusOf true s (asked x) (length (x .buffer)) ≡ firstOf (stepI (viewAt s x) (asked x) ++ stepJ (viewAt s x) (asked x))
   unfolding statusOf steps
-  later-steps = none-first (take rowsToH rows) (drop rowsToH rows) (none .1 .1)
+  later-steps = none-first (stepsToH (viewAt s x) (asked x)) (stepI (viewAt s x) (asked x) ++ stepJ (viewAt s x) (asked x)) (none .1 .1)
 
 -- ---- what it is answered on memory that holds s
 

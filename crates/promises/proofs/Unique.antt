@@ -215,6 +215,9 @@ check-one κs a x y u v p q = value p q
 pub look-up-one : Determines looks.look_up.Kinds.ps looks.look_up.Kinds.r looks.look_up.Reads.Learnt
 look-up-one κs a x y u v p q = value p q
 
+pub held-room-one : Determines looks.held_room.Kinds.ps looks.held_room.Kinds.r looks.held_room.Reads.Learnt
+held-room-one κs a x y u v p q = value p q
+
 pub hand-over-one : Determines looks.hand_over.Kinds.ps looks.hand_over.Kinds.r looks.hand_over.Reads.Learnt
 hand-over-one κs a x y u v p q = (p .0 ∙ sym (q .0), ap (λ (b : List ℕ). (tt, (tt, (tt, (tt, (b, (tt, tt))))))) (p .1 ∙ sym (q .1)))
 

@@ -1,8 +1,8 @@
--- The bench cases P1 to P12 of document 01: one table, and one statement about the definitions. Assumes nothing.
+-- The bench cases P1 to P12 of document 01, P10 as changed by request [1]: one table, and one statement about the definitions. Assumes nothing.
 use mathlib.Core.Path.{_≡_, refl}
 use mathlib.Core.Bool.{true}
 use mathlib.Core.List.{List, [], _∷_, map}
-use Prim.Native.Nat.{ℕ}
+use Prim.Native.Nat.{ℕ, zero, suc}
 use lib.ListN.{length, replicate}
 use Rattle.octets.specs.Octets.{part, put, number, filled}
 use Rattle.octets.specs.Keys.{Key}
@@ -99,6 +99,11 @@ case i n tries = record { index = i; size = n; tries = tries }
 abbrev pub three : List Call
 three = store 0 B [] ∷ store 0 A (7 ∷ []) ∷ store 0 AB [] ∷ []
 
+-- the keys below n, of one byte each
+abbrev pub stores : ℕ → List Call
+stores zero = []
+stores (suc n) = store 0 (n ∷ []) (junk 1) ∷ stores n
+
 abbrev pub table : List Case
 table =
     -- P1
@@ -124,11 +129,21 @@ table =
     -- P9
     ∷ case 3 10 (gives [] (store 0 A (junk 9)) 0x00 0 (junk 9) ∷ gives [] (store 0 A (junk 10)) 0x81 0 (junk 10) ∷ [])
     -- P10
-    ∷ case 3 10 (gives (store 0 A (junk 9) ∷ []) (store 0 A (junk 1)) 0x81 0 (junk 1) ∷ [])
+    ∷ case 3 10 (
+    gives (store 0 A (junk 9) ∷ []) (store 0 A (junk 1)) 0x00 0 (junk 1)
+    ∷ gives (store 0 A (junk 9) ∷ []) (store 0 A (junk 10)) 0x81 0 (junk 10)
+    ∷ []
+    )
     -- P11
     ∷ case 3 4096 (gives [] (store 3 A []) 0x87 0 [] ∷ gives (store 0 A [] ∷ []) (store 3 A []) 0x89 0 [] ∷ [])
     -- P12
     ∷ case 3 4096 (gives (store 0 A (1 ∷ 2 ∷ 3 ∷ 4 ∷ 5 ∷ []) ∷ []) (retrieve A (junk 3)) 0x00 5 (1 ∷ 2 ∷ 3 ∷ []) ∷ [])
+    -- [1], max keys held
+    ∷ case 15 4096 (
+    gives (stores 16) (store 0 (0 ∷ []) (junk 2)) 0x00 0 (junk 2)
+    ∷ gives (stores 16) (store 0 (16 ∷ []) []) 0x81 0 []
+    ∷ []
+    )
     ∷ []
 
 pub cases : map got table ≡ map wanted table

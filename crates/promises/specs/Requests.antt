@@ -4,14 +4,15 @@ use mathlib.Core.Bool.{Bool, true, _&&_}
 use mathlib.Core.List.{List, _∷_}
 use Prim.Native.Nat.{ℕ, _%_}
 use lib.Dec.{eqb}
-use lib.ListN.{length, take}
+use lib.ListN.{length}
 use Rattle.octets.specs.Keys.{Key}
 use Rattle.octets.specs.Tests.{firstOf}
 use Rattle.wire.specs.declared.entries.Command.{Command}
 use Rattle.wire.specs.Entry.{readCommand, keyOf, isStore, notEntry}
 use Rattle.wire.specs.Completion.{readCompletion, notCompletion}
 use Rattle.store.specs.Namespace.{Namespace}
-use Rattle.commands.specs.Steps.{viewOf, steps}
+use Rattle.commands.specs.declared.steps.View.{View}
+use Rattle.commands.specs.Steps.{viewOf, stepsToH, stepI}
 use Rattle.commands.specs.Answer.{Answer}
 use Rattle.memory.specs.Memory.{Memory}
 use Rattle.commands.specs.Command.{Post, Outcome}
@@ -36,20 +37,24 @@ asked x = readCommand (x .entry)
 abbrev pub bothBits : Command → Bool
 bothBits c = isStore (c .opcode) && eqb (c .options % 4) 3
 
--- steps a to h are the table's first nine rows
-abbrev pub rowsToH : ℕ
-rowsToH = 9
+-- what the steps look at where s is stored
+abbrev pub viewAt : Namespace → Request → View
+viewAt s x = viewOf true s (asked x) (length (x .buffer))
 
 -- what numbers 1 and 2 and steps a to h say, 0 if none refuses; memory is legal after a formatting, so step a never does
 unfoldable pub refusal : Namespace → Request → ℕ
-refusal s x =
-    firstOf (notEntry (x .entry) ∷ notCompletion (x .completion) ∷ take rowsToH (steps (viewOf true s (asked x) (length (x .buffer))) (asked x)))
+refusal s x = firstOf (notEntry (x .entry) ∷ notCompletion (x .completion) ∷ stepsToH (viewAt s x) (asked x))
 
 -- opcode op and key k, and nothing before step i refuses it where s is stored
 pub record Proper (s : Namespace) (op : ℕ) (k : Key) (x : Request) : Type 0 where
   pub opcode : asked x .opcode ≡ op
   pub key : keyOf (asked x) ≡ k
   pub passes : refusal s x ≡ 0
+
+-- and step i lets it pass as well
+pub record PassesI (s : Namespace) (op : ℕ) (k : Key) (x : Request) : Type 0 where
+  pub proper : Proper s op k x
+  pub keyed : firstOf (stepI (viewAt s x) (asked x)) ≡ 0
 
 -- number 0, and with it status, Dword 0 and the data buffer afterwards
 pub record Gives (st n : ℕ) (b : List ℕ) (o : Outcome) : Type 0 where

@@ -1,13 +1,13 @@
 -- Counts and sums after insert and erase, and the limits after erase. Assumes nothing.
-use mathlib.Core.Path.{_≡_, refl}
+use mathlib.Core.Path.{_≡_, refl, ap}
 use mathlib.Core.Bool.{Bool, true, false, cond}
 use mathlib.Core.List.{List, [], _∷_}
 use Prim.Native.Nat.{ℕ, suc, _+_, _≤_}
 use native.Mathlib.Omega.{arith}
 use lib.ListN.{length}
 use Rattle.octets.specs.Keys.{Key}
-use Rattle.octets.proofs.OrderLaws.{compared, less, equal, greater}
-use Rattle.store.specs.Maps.{Pair, insert, erase, present, used}
+use Rattle.octets.proofs.OrderLaws.{compared, less, equal, greater, order-eq}
+use Rattle.store.specs.Maps.{Pair, insert, erase, present, used, heldRoom}
 use Rattle.store.specs.Namespace.{Namespace, withPairs}
 use Rattle.store.proofs.MapLaws.{erase-rising}
 use Rattle.store.proofs.NamespaceLaws.{Within, erase-admitted}
@@ -29,23 +29,28 @@ insert-used k v (p ∷ m) =
     let r = insert-used k v m in
     elim (compared k (p .key)) [ less e ↦ rw e (omega arith) | equal e ↦ rw e (omega arith) | greater e ↦ rw e (omega arith) ]
 
-pub erase-less : (k : Key) (m : List Pair) → (length (erase k m) ≤ length m) × (used (erase k m) ≤ used m)
-erase-less k [] = (omega arith, omega arith)
-erase-less k (p ∷ m) =
-    let r = erase-less k m in
+pub erase-used : (k : Key) (m : List Pair) → used (erase k m) + heldRoom k m ≡ used m
+erase-used k [] = refl
+erase-used k (p ∷ m) =
+    let r = erase-used k m in
     elim (compared k (p .key)) [
-      | less e ↦ rw e (omega arith, omega arith)
-      | equal e ↦ rw e (omega arith, omega arith)
-      | greater e ↦ rw e (omega arith, omega arith)
+      | less e ↦ rw e (omega arith)
+      | equal e ↦ rw e (omega (arith, ap length (order-eq k (p .key) e)))
+      | greater e ↦ rw e (omega arith)
     ]
+
+erase-fewer : (k : Key) (m : List Pair) → length (erase k m) ≤ length m
+erase-fewer k [] = omega arith
+erase-fewer k (p ∷ m) =
+    let r = erase-fewer k m in
+    elim (compared k (p .key)) [ less e ↦ rw e (omega arith) | equal e ↦ rw e (omega arith) | greater e ↦ rw e (omega arith) ]
 
 pub erase-within : (s : Namespace) (k : Key) → Within s → Within (withPairs s (erase k (s .pairs)))
 erase-within s k w =
-    let less = erase-less k (s .pairs) in
     record {
       permits = w .permits;
       rising = erase-rising k (s .pairs) (w .rising);
       admitted = erase-admitted (s .index) k (s .pairs) (w .admitted);
-      count = omega (arith, w .count);
-      room = omega (arith, w .room);
+      count = omega (arith, erase-fewer k (s .pairs), w .count);
+      room = omega (arith, erase-used k (s .pairs), w .room);
     }

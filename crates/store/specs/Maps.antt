@@ -1,5 +1,5 @@
 -- A finite map from keys to values: its pairs, in rising key order. So one map is one list. Assumes nothing.
-use mathlib.Core.Bool.{Bool, true, false}
+use mathlib.Core.Bool.{Bool, true, false, cond}
 use mathlib.Core.List.{List, [], _∷_, _++_}
 use mathlib.Core.Option.{Option, none, some, Option·getD}
 use Prim.Native.Nat.{ℕ, _+_}
@@ -45,6 +45,10 @@ valueOf k m = Option·getD (lookup k m) []
 abbrev pub used : List Pair → ℕ
 used [] = 0
 used (p ∷ m) = length (p .key) + length (p .value) + used m
+
+-- the room of the pair that k holds, none where k is absent
+abbrev pub heldRoom : Key → List Pair → ℕ
+heldRoom k m = cond (present k m) (length k + length (valueOf k m)) 0
 
 -- the values one behind the other
 abbrev pub values : List Pair → List ℕ

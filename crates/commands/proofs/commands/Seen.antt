@@ -13,13 +13,14 @@ use Rattle.octets.specs.Tests.{firstOf}
 use Rattle.wire.specs.declared.entries.Command.{Command}
 use Rattle.wire.specs.Entry.{keyOf}
 use Rattle.store.specs.declared.finds.Found.{Found}
-use Rattle.store.specs.Maps.{keys, present}
+use Rattle.store.specs.Maps.{keys, present, heldRoom}
 use Rattle.store.specs.Finds.{found, foundKey}
 use Rattle.store.proofs.RankLaws.{has-present}
 use Rattle.memory.specs.declared.checks.Checked.{Checked}
 use Rattle.memory.specs.Memory.{memory, namespaceOf, pairsOf, legal}
-use Rattle.memory.specs.Checks.{checked, keysAt, Legal, Looked}
-use Rattle.memory.proofs.LegalLaws.{checked-legal, legal-checked, keys-are}
+use Rattle.memory.specs.Checks.{checked, keysAt, roomAt, Legal, Looked}
+use Rattle.memory.proofs.LegalLaws.{checked-legal, legal-checked}
+use Rattle.memory.proofs.RoomLaws.{looked-in, room-is}
 use Rattle.commands.specs.declared.steps.View.{View}
 use Rattle.commands.specs.Steps.{viewOf, steps, statusOf}
 use Rattle.commands.specs.Command.{response, respond}
@@ -42,8 +43,8 @@ clamped n key l = elim (decLt n 16) [ yes h ↦ short h | no h ↦ long (omega (
         rw e (take-all 16 key (omega arith) ∙ sym (take-all n key (omega arith)))
 
 -- what the code asks the table with
-abbrev pub view : Checked → Found → ℕ → View
-view k f n =
+abbrev pub view : Checked → Found → ℕ → ℕ → View
+view k f old n =
     record {
       legal = k .ok;
       format = k .format;
@@ -51,6 +52,7 @@ view k f n =
       size = k .label .size;
       count = k .label .count;
       used = k .used;
+      old = old;
       held = f .held;
       room = n;
     }
@@ -59,29 +61,30 @@ not-legal : (x : View) (c : Command) → x .legal ≡ false → firstOf (steps x
 unfolding steps
 not-legal x c e = rw e
 
-module _ (c : Command) {k : Checked} {f : Found} (d v : List ℕ) (l : length (c .key) ≡ 16) (ek : k ≡ checked (memory d v))
-    (ef : f ≡ found (c .key) (c .len) (keysAt k d)) where
+module _ (c : Command) {k : Checked} {f : Found} {old : ℕ} (d v : List ℕ) (l : length (c .key) ≡ 16) (ek : k ≡ checked (memory d v))
+    (ef : f ≡ found (c .key) (c .len) (keysAt k d)) (eo : old ≡ roomAt k f d) where
   key-is : foundKey f ≡ keyOf c
   key-is = rw ef (clamped (c .len) (c .key) l)
 
   looked-at : Legal k d v → Looked f (keys (pairsOf (memory d v)))
-  looked-at g = rw (ef, keys-are g) (record { held = refl; slot = refl; short = omega arith })
+  looked-at g = looked-in g (c .key) (c .len) ef
 
   ok-is : k .ok ≡ legal (memory d v)
   ok-is = rw ek (checked-legal (memory d v))
 
-  seen : (n : ℕ) → firstOf (steps (view k f n) c) ≡ statusOf (legal (memory d v)) (namespaceOf (memory d v)) c n
+  seen : (n : ℕ) → firstOf (steps (view k f old n) c) ≡ statusOf (legal (memory d v)) (namespaceOf (memory d v)) c n
   unfolding statusOf
   seen n = go (legal (memory d v)) refl
     where
-      go : (z : Bool) → legal (memory d v) ≡ z → firstOf (steps (view k f n) c) ≡ firstOf (steps (viewOf z (namespaceOf (memory d v)) c n) c)
+      go : (z : Bool) → legal (memory d v) ≡ z → firstOf (steps (view k f old n) c) ≡ firstOf (steps (viewOf z (namespaceOf (memory d v)) c n) c)
       go true o =
           let g = legal-checked d v ek (ok-is ∙ o) in
           let held : f .held ≡ present (keyOf c) (pairsOf (memory d v)) = looked-at g .held ∙ rw key-is (has-present (keyOf c) (pairsOf (memory d v))) in
-          rw (held, g .is)
-      go false o = not-legal (view k f n) c (ok-is ∙ o) ∙ sym (not-legal (viewOf false (namespaceOf (memory d v)) c n) c refl)
+          let room : old ≡ heldRoom (keyOf c) (pairsOf (memory d v)) = eo ∙ room-is g (looked-at g) (rw ef l) ∙ rw key-is in
+          rw (held, room, g .is)
+      go false o = not-legal (view k f old n) c (ok-is ∙ o) ∙ sym (not-legal (viewOf false (namespaceOf (memory d v)) c n) c refl)
 
-  module _ (b : List ℕ) {st : ℕ} (e : st ≡ firstOf (steps (view k f (length b)) c)) where
+  module _ (b : List ℕ) {st : ℕ} (e : st ≡ firstOf (steps (view k f old (length b)) c)) where
     status-is : st ≡ statusOf (legal (memory d v)) (namespaceOf (memory d v)) c (length b)
     status-is = e ∙ seen (length b)
 

@@ -12,7 +12,7 @@ use Rattle.octets.specs.Octets.{put, bytes, zeros}
 use Rattle.octets.proofs.PartLaws.{put-seam, put-front}
 use Rattle.store.specs.declared.finds.Found.{Found}
 use Rattle.store.specs.Formats.{slots}
-use Rattle.store.specs.Maps.{Pair, pair, keys, values, insert, erase}
+use Rattle.store.specs.Maps.{Pair, pair, values, insert, erase}
 use Rattle.store.specs.Namespace.{Namespace, withPairs}
 use Rattle.store.specs.Records.{pairsIn}
 use Rattle.store.specs.Parts.{Holds as Parts, inserted, erased}
@@ -22,12 +22,13 @@ use Rattle.store.proofs.NamespaceLaws.{Within, within-true}
 use Rattle.store.proofs.CountLaws.{erase-within}
 use Rattle.store.proofs.PartsLaws.{values-used, records-long, values-long}
 use Rattle.store.proofs.SlotLaws.{value-length-at, length-inserted, length-erased, values-inserted, values-erased}
-use Rattle.store.proofs.RankLaws.{rank-le, rank-held, length-keys, insert-held, insert-new, erase-held}
+use Rattle.store.proofs.RankLaws.{insert-held, insert-new, erase-held}
 use Rattle.memory.specs.declared.checks.Checked.{Checked}
 use Rattle.memory.specs.Memory.{memory, needed, halfOf, labelOf, directoryHead, directoryOf, valuesOf, imageOver, imageWith, namespaceOf, pairsOf}
-use Rattle.memory.specs.Checks.{recordsAt, valuesAt, Legal, Looked, CanPut, CanErase}
+use Rattle.memory.specs.Checks.{recordsAt, valuesAt, Legal, CanPut, CanErase}
 use Rattle.memory.proofs.ImageLaws.{length-directory, length-values, head-held}
 use Rattle.memory.proofs.LegalLaws.{holds-in, pairs-at, count-is, part-is, standing-in}
+use Rattle.memory.proofs.RoomLaws.{slot-le, slot-lt}
 
 -- ---- the whole slices out of a head, a records part and a values part
 
@@ -92,15 +93,6 @@ module _ {k : Checked} {d v : List ℕ} (g : Legal k d v) (f : List Pair → Lis
       → memory d′ (valuesWith k v w) ≡ imageOver (withPairs s m) (memory d v)
   new-count c e n =
       ap₂ memory (e ∙ rw head-is (counted s (length (s .pairs)) c _) ∙ directory-made (with-count s c) (ap (with-count s) n)) values-made
-
--- ---- the slot of a key
-
-module _ {f : Found} (m : List Pair) (l : Looked f (keys m)) where
-  slot-le : f .slot ≤ length m
-  slot-le = omega (arith, l .slot, rank-le (foundKey f) (keys m), length-keys m)
-
-  pub slot-lt : f .held ≡ true → f .slot < length m
-  slot-lt e = omega (arith, l .slot, rank-held (foundKey f) m (sym (l .held) ∙ e))
 
 -- ---- erase
 

@@ -1,6 +1,6 @@
 -- A value handed over and keys listed are those of the map. Assumes nothing.
 use mathlib.Core.Path.{_≡_, sym, ap, _∙_}
-use mathlib.Core.List.{List, []}
+use mathlib.Core.List.{List}
 use Prim.Native.Nat.{ℕ, _-_, _*_, _<_}
 use native.Mathlib.Omega.{arith}
 use lib.ListN.{length, take, drop}
@@ -8,18 +8,18 @@ use Rattle.octets.specs.Octets.{put}
 use Rattle.octets.specs.Keys.{Key, from}
 use Rattle.wire.specs.Page.{page, fits, shown}
 use Rattle.store.specs.declared.finds.Found.{Found}
-use Rattle.store.specs.Maps.{Pair, pair, keys, valueOf}
+use Rattle.store.specs.Maps.{Pair, keys, valueOf}
 use Rattle.store.specs.Records.{valueLength, valueIn}
 use Rattle.store.specs.Finds.{foundKey}
 use Rattle.store.specs.Verbs.{pairAt, CanCopy}
 use Rattle.store.proofs.PartsLaws.{records-long, values-long}
 use Rattle.store.proofs.SlotLaws.{value-cut, place-at, value-length-at, value-at}
-use Rattle.store.proofs.RankLaws.{rank-le, value-held, from-rank, length-keys-in}
+use Rattle.store.proofs.RankLaws.{rank-le, from-rank, length-keys-in}
 use Rattle.memory.specs.declared.checks.Checked.{Checked}
 use Rattle.memory.specs.Memory.{memory, pairsOf}
 use Rattle.memory.specs.Checks.{recordsAt, valuesAt, keysAt, Listing, CanHand, CanList}
 use Rattle.memory.proofs.LegalLaws.{part-is}
-use Rattle.memory.proofs.changes.Pairs.{slot-lt}
+use Rattle.memory.proofs.RoomLaws.{slot-lt, value-is}
 
 module _ {k : Checked} {f : Found} {n : ℕ} {d v b : List ℕ} (c : CanHand k f n d v b) where
   abbrev m : List Pair
@@ -28,8 +28,8 @@ module _ {k : Checked} {f : Found} {n : ℕ} {d v b : List ℕ} (c : CanHand k f
   inside : f .slot < length m
   inside = slot-lt m (c .erases .looked) (c .erases .held)
 
-  value-is : pairAt m (f .slot) .value ≡ valueOf (foundKey f) m
-  value-is = let l = c .erases .looked in rw (l .slot) (sym (value-held (foundKey f) m (pair [] []) (sym (l .held) ∙ c .erases .held)))
+  value : pairAt m (f .slot) .value ≡ valueOf (foundKey f) m
+  value = value-is m (c .erases .looked) (c .erases .held)
 
   pub can-copy : CanCopy (f .slot) n (recordsAt k d) (valuesAt k v) b
   can-copy =
@@ -45,8 +45,8 @@ module _ {k : Checked} {f : Found} {n : ℕ} {d v b : List ℕ} (c : CanHand k f
       → (r ≡ length (valueOf (foundKey f) m)) × (b′ ≡ put 0 (take n (valueOf (foundKey f) m)) b))
   handed e =
       let p = part-is (c .erases .legal) .holds in (
-        e .0 ∙ value-length-at p (f .slot) inside ∙ ap length value-is,
-        e .1 ∙ ap (λ (l : List ℕ). put 0 (take n l) b) (value-at p (f .slot) inside ∙ value-is),
+        e .0 ∙ value-length-at p (f .slot) inside ∙ ap length value,
+        e .1 ∙ ap (λ (l : List ℕ). put 0 (take n l) b) (value-at p (f .slot) inside ∙ value),
       )
 
 module _ {k : Checked} {f : Found} {n : ℕ} {d b : List ℕ} (c : CanList k f n d b) where

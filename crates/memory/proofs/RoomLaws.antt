@@ -1,0 +1,72 @@
+-- The pair that a key looked up holds: its slot, its value, and its room, which is part of the sum that the check has made. Assumes nothing.
+use mathlib.Core.Path.{_≡_, refl, sym, ap, _∙_}
+use mathlib.Core.Bool.{true, false}
+use mathlib.Core.List.{List, []}
+use Prim.Native.Nat.{ℕ, _≤_, _<_}
+use native.Mathlib.Omega.{arith}
+use lib.ListN.{length, length-take}
+use Rattle.octets.proofs.TestLaws.{known, holds, fails, contrary}
+use Rattle.store.specs.declared.finds.Found.{Found}
+use Rattle.store.specs.Maps.{Pair, pair, keys, present, valueOf, used, heldRoom}
+use Rattle.store.specs.Finds.{found, foundKey}
+use Rattle.store.specs.Verbs.{pairAt}
+use Rattle.store.proofs.CountLaws.{erase-used}
+use Rattle.store.proofs.SlotLaws.{value-length-at}
+use Rattle.store.proofs.RankLaws.{rank-le, rank-held, length-keys, value-held, has-present}
+use Rattle.memory.specs.declared.checks.Checked.{Checked}
+use Rattle.memory.specs.Memory.{memory, pairsOf, legal}
+use Rattle.memory.specs.Checks.{checked, notLegal, keysAt, roomAt, Legal, Looked, CanWeigh}
+use Rattle.memory.proofs.LegalLaws.{checked-legal, legal-checked, look-checked, keys-are, count-is, part-is}
+
+module _ {f : Found} (m : List Pair) (l : Looked f (keys m)) where
+  pub slot-le : f .slot ≤ length m
+  slot-le = omega (arith, l .slot, rank-le (foundKey f) (keys m), length-keys m)
+
+  module _ (h : f .held ≡ true) where
+    pub slot-lt : f .slot < length m
+    slot-lt = omega (arith, l .slot, rank-held (foundKey f) m (sym (l .held) ∙ h))
+
+    pub value-is : pairAt m (f .slot) .value ≡ valueOf (foundKey f) m
+    value-is = rw (l .slot) (sym (value-held (foundKey f) m (pair [] []) (sym (l .held) ∙ h)))
+
+-- a key found in the part that k names is found in the map
+pub looked-in : {k : Checked} {f : Found} {d v : List ℕ} → Legal k d v → (key : List ℕ) (n : ℕ) → f ≡ found key n (keysAt k d)
+    → Looked f (keys (pairsOf (memory d v)))
+looked-in g key n e = rw (e, keys-are g) (record { held = refl; slot = refl; short = omega arith })
+
+-- in legal memory what the slot says is what the map says, and the sum has it in it
+module _ {k : Checked} {f : Found} {d v : List ℕ} (g : Legal k d v) (l : Looked f (keys (pairsOf (memory d v)))) (sixteen : length (f .key) ≡ 16) where
+  abbrev m : List Pair
+  m = pairsOf (memory d v)
+
+  pub room-is : roomAt k f d ≡ heldRoom (foundKey f) m
+  room-is =
+      let same : present (foundKey f) m ≡ f .held = sym (l .held ∙ has-present (foundKey f) m) in
+      elim (known (f .held)) [
+        | fails e ↦ rw (same, e)
+        | holds e ↦
+            let n = value-length-at (part-is g .holds) (f .slot) (slot-lt m l e) ∙ ap length (value-is m l e) in
+            rw (same, e) (omega (arith, n, length-take (f .len) (f .key), l .short))
+      ]
+
+  room-sum : roomAt k f d ≤ k .used
+  room-sum =
+      let sum : k .used ≡ used m = rw (g .is) in
+      omega (arith, sum, room-is, erase-used (foundKey f) m)
+
+-- and in other memory no key is held
+module _ {k : Checked} {f : Found} (key : List ℕ) (n : ℕ) (d v : List ℕ) (l : length key ≡ 16) (ek : k ≡ checked (memory d v))
+    (ef : f ≡ found key n (keysAt k d)) where
+  pub can-weigh : CanWeigh k f d × (roomAt k f d ≤ k .used)
+  unfolding checked
+  can-weigh =
+      elim (known (legal (memory d v))) [
+        | holds e ↦
+            let g = legal-checked d v ek (rw ek (checked-legal (memory d v)) ∙ e) in
+            let at = looked-in g key n ef in
+            (record { look = g .look; slot = λ h. omega (arith, slot-lt (pairsOf (memory d v)) at h, count-is g) }, room-sum g at (rw ef l))
+        | fails e ↦
+            let is : k ≡ notLegal = rw e at ek in
+            let none : f .held ≡ false = rw (ef, is) in
+            (record { look = look-checked d v ek; slot = λ h. absurd (contrary (sym none ∙ h)) }, rw none (omega arith))
+      ]
