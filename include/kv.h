@@ -37,7 +37,7 @@ enum {
     KV_DATA_TRANSFER = 0x04,  /* data buffer shorter than Dword 10 */
     KV_INTERNAL = 0x06,       /* store memory not legal */
     KV_INVALID_NAMESPACE = 0x0b,
-    KV_CAPACITY = 0x81,
+    KV_CAPACITY = 0x81,       /* Store: the most keys held, or no room even with the key's old pair taken off */
     KV_VALUE_SIZE = 0x85,
     KV_KEY_SIZE = 0x86,
     KV_KEY_ABSENT = 0x87,
