@@ -4,7 +4,7 @@
 
 unsigned long long strtoull(const char *, char **, int);
 
-static uint64_t wanted = 450000;
+static uint64_t wanted = 225000;
 
 static void history(uint64_t ordinal) {
     static const uint32_t ids[4] = {1, 2, 0xfffffffe, 0x80000000}, sizes[5] = {20, 200, 1000, 5000, 65536};
