@@ -40,14 +40,14 @@ store-within s c b w l o p =
     let k = keyOf c in
     let v = take (c .amount) b in
     let m = s .pairs in
-    let lk : length k ≡ c .len = omega (arith, length-take (c .len) (c .key), p .sixteen) in
-    let lv : length v ≡ c .amount = omega (arith, length-take (c .amount) b, p .lent (rw o)) in
+    let lk : length k ≡ c .len = omega (arith, length-take (c .len) (c .key), p .early .sixteen) in
+    let lv : length v ≡ c .amount = omega (arith, length-take (c .amount) b, p .early .lent (rw o)) in
     let op : c .opcode ≡ 0x01 = eqb-true (c .opcode) 0x01 o in
-    let some : 1 ≤ c .len = p .some (rw op) in
+    let some : 1 ≤ c .len = p .early .some (rw op) in
     record {
       permits = w .permits;
       rising = insert-rising k v m (w .rising);
-      admitted = insert-admitted (s .index) k v m (omega arith) (omega (arith, p .short)) (omega (arith, p .value o)) (w .admitted);
+      admitted = insert-admitted (s .index) k v m (omega arith) (omega (arith, p .early .short)) (omega (arith, p .early .value o)) (w .admitted);
       count = rw insert-count (counted (present k m) (w .count) (p .slot o));
       room = omega (arith, insert-used k v m, erase-used k m, p .room o);
     }

@@ -2,19 +2,20 @@
 -- Assumes nothing.
 use mathlib.Core.Path.{_≡_, refl}
 use mathlib.Core.Bool.{Bool, true, false, not, _&&_, _||_, and-true}
+use mathlib.Core.List.{_++_}
 use Prim.Native.Nat.{ℕ, _+_, _-_, _≤_, _<_}
 use native.Mathlib.Omega.{arith}
 use lib.Dec.{leb, ltb, eqb}
 use borrow.Author.Tests.{ltb-false, eqb-true, eqb-false, not-false}
 use Rattle.octets.specs.Tests.{firstOf}
-use Rattle.octets.proofs.TestLaws.{neither, none-holds, first-below}
+use Rattle.octets.proofs.TestLaws.{neither, None, none-holds, none-parts, first-below}
 use Rattle.wire.specs.declared.entries.Command.{Command}
 use Rattle.wire.specs.Entry.{isStore, isRetrieve, isList, isDelete, isExist, known, ifPresent, ifAbsent}
 use Rattle.store.specs.Namespace.{Namespace}
 use Rattle.commands.specs.declared.steps.View.{View}
-use Rattle.commands.specs.Steps.{steps, viewOf, statusOf}
+use Rattle.commands.specs.Steps.{stepsToH, stepI, stepJ, steps, viewOf, statusOf}
 
-pub record Passed (v : View) (c : Command) : Type 0 where
+pub record PassedToH (v : View) (c : Command) : Type 0 where
   -- a
   pub legal : v .legal ≡ true
   -- b
@@ -33,6 +34,9 @@ pub record Passed (v : View) (c : Command) : Type 0 where
   pub counted : isList (c .opcode) ≡ true → 4 ≤ c .amount
   -- h
   pub lent : (isStore (c .opcode) || isRetrieve (c .opcode) || isList (c .opcode)) ≡ true → c .amount ≤ v .room
+
+pub record Passed (v : View) (c : Command) : Type 0 where
+  pub early : PassedToH v c
   -- i
   pub held : (isRetrieve (c .opcode) || isDelete (c .opcode) || isExist (c .opcode) || ifPresent c) ≡ true → v .held ≡ true
   pub absent : ifAbsent c ≡ true → v .held ≡ false
@@ -44,10 +48,8 @@ right-false : (a b : Bool) → (a && b) ≡ false → a ≡ true → b ≡ false
 right-false true b e h = e
 right-false false b e h = cc
 
-pub passed : (v : View) (c : Command) → firstOf (steps v c) ≡ 0 → Passed v c
-unfolding steps
-passed v c none =
-    let a = none-holds (steps v c) tt none in
+pub passed-to-h : (v : View) (c : Command) → None (stepsToH v c) → PassedToH v c
+passed-to-h v c a =
     let b = a .1 in
     let cc = b .1 in
     let d = cc .1 in
@@ -56,9 +58,6 @@ passed v c none =
     let g = f .1 in
     let g2 = g .1 in
     let h = g2 .1 in
-    let i = h .1 in
-    let i2 = i .1 in
-    let j = i2 .1 in
     let key = neither (ltb (v .format .keymax) (c .len)) (eqb (c .len) 0 && not (isList (c .opcode))) (f .0) in
     record {
       legal = not-false (v .legal) (a .0);
@@ -71,6 +70,17 @@ passed v c none =
       value = λ o. ltb-false (v .format .valuemax) (c .amount) (right-false _ _ (g .0) o);
       counted = λ o. ltb-false (c .amount) 4 (right-false _ _ (g2 .0) o);
       lent = λ o. ltb-false (v .room) (c .amount) (right-false _ _ (h .0) o);
+    }
+
+pub passed : (v : View) (c : Command) → firstOf (steps v c) ≡ 0 → Passed v c
+unfolding steps
+passed v c none =
+    let parts = none-parts (stepsToH v c) (stepI v c ++ stepJ v c) (none-holds (steps v c) tt none) in
+    let i = parts .1 in
+    let i2 = i .1 in
+    let j = i2 .1 in
+    record {
+      early = passed-to-h v c (parts .0);
       held = λ o. not-false (v .held) (right-false _ _ (i .0) o);
       absent = right-false _ _ (i2 .0);
       slot = λ o. neither slots room (right-false _ _ (j .0) o) .0;

@@ -1,7 +1,7 @@
 -- What is known of tests that hold or fail, and of tables of them: where all hold, or none. Assumes nothing.
 use mathlib.Core.Path.{_≡_, refl, sym, ap, _∙_}
 use mathlib.Core.Bool.{Bool, true, false, cond, not, _&&_, _||_, and-true, and-assoc}
-use mathlib.Core.List.{List, [], _∷_}
+use mathlib.Core.List.{List, [], _∷_, _++_}
 use Prim.Native.Nat.{ℕ, _<_}
 use native.Mathlib.Omega.{arith}
 use lib.Dec.{T, eqb, ltb, ltb→lt}
@@ -88,9 +88,16 @@ none-holds (r ∷ rs) t e =
     let p = passed (r .when) (r .number) (firstOf rs) (u .0) e in
     (p .0, none-holds rs (u .1) (p .1))
 
-pub none-first : (rs : List Row) → None rs → firstOf rs ≡ 0
-none-first [] n = refl
-none-first (r ∷ rs) n = rw (n .0) (none-first rs (n .1))
+-- rows of which none holds leave it to those behind them
+pub none-first : (rs qs : List Row) → None rs → firstOf (rs ++ qs) ≡ firstOf qs
+none-first [] qs n = refl
+none-first (r ∷ rs) qs n = rw (n .0) (none-first rs qs (n .1))
+
+pub none-parts : (rs qs : List Row) → None (rs ++ qs) → None rs × None qs
+none-parts [] qs n = (tt, n)
+none-parts (r ∷ rs) qs n =
+    let p = none-parts rs qs (n .1) in
+    ((n .0, p .0), p .1)
 
 -- each number of the table is below m, so the first one is
 pub first-below : (m : ℕ) (rs : List Row) → 0 < m → T (each (λ n. ltb n m) rs) → firstOf rs < m

@@ -1,19 +1,20 @@
 -- Memory after a formatting and calls holds what is stored; of a request that nothing before step i refuses, the later rows decide the
 -- status. Assumes nothing.
-use mathlib.Core.Path.{_≡_, refl, sym, ap, _∙_}
+use mathlib.Core.Path.{_≡_, sym, ap, _∙_}
 use mathlib.Core.Bool.{true}
-use mathlib.Core.List.{List, [], _∷_, _++_}
-use Prim.Native.Nat.{_^_, _≤_, _<_}
+use mathlib.Core.List.{List, _∷_, _++_}
+use Prim.Native.Nat.{_^_, _<_}
 use lib.ListN.{length}
-use borrow.Author.Tests.{eqb-true, ltb-false, not-false}
-use Rattle.octets.specs.Tests.{Row, firstOf}
-use Rattle.octets.proofs.TestLaws.{None, none-holds}
+use borrow.Author.Tests.{eqb-true, not-false}
+use Rattle.octets.specs.Tests.{firstOf}
+use Rattle.octets.proofs.TestLaws.{None, none-holds, none-first}
 use Rattle.wire.specs.Entry.{notEntry}
 use Rattle.wire.specs.Completion.{notCompletion}
 use Rattle.store.specs.Namespace.{Namespace, fresh}
 use Rattle.commands.specs.Steps.{steps, stepsToH, stepI, stepJ, statusOf}
 use Rattle.commands.specs.Answer.{Answer, answer}
 use Rattle.memory.specs.Memory.{Memory}
+use Rattle.commands.proofs.StepLaws.{PassedToH, passed-to-h}
 use Rattle.commands.proofs.AnswerLaws.{answer-status}
 use Rattle.memory.proofs.ImageLaws.{Holds}
 use Rattle.commands.proofs.CommandLaws.{format-holds}
@@ -28,10 +29,6 @@ holds-after a xs ok =
 
 -- ---- a request that nothing before step i refuses
 
-pub none-first : (rs qs : List Row) → None rs → firstOf (rs ++ qs) ≡ firstOf qs
-none-first [] qs n = refl
-none-first (r ∷ rs) qs n = rw (n .0) (none-first rs qs (n .1))
-
 module _ (s : Namespace) (x : Request) (e : refusal s x ≡ 0) where
   none : None (notEntry (x .entry) ∷ notCompletion (x .completion) ∷ stepsToH (viewAt s x) (asked x))
   unfolding refusal
@@ -43,8 +40,8 @@ module _ (s : Namespace) (x : Request) (e : refusal s x ≡ 0) where
   pub completion-16 : length (x .completion) ≡ 16
   completion-16 = eqb-true (length (x .completion)) 16 (not-false _ (none .1 .0))
 
-  pub key-short : asked x .len ≤ 16
-  key-short = ltb-false 16 (asked x .len) (none .1 .1 .1 .1 .1 .1 .0)
+  pub early : PassedToH (viewAt s x) (asked x)
+  early = passed-to-h (viewAt s x) (asked x) (none .1 .1)
 
   pub later-steps : statusOf true s (asked x) (length (x .buffer)) ≡ firstOf (stepI (viewAt s x) (asked x) ++ stepJ (viewAt s x) (asked x))
   unfolding statusOf steps

@@ -8,7 +8,7 @@ use native.Mathlib.Omega.{arith}
 use lib.ListN.{length, take, replicate, length-take}
 use borrow.Author.Tests.{le-ltb}
 use Rattle.octets.specs.Keys.{Key}
-use Rattle.octets.proofs.TestLaws.{none-holds}
+use Rattle.octets.proofs.TestLaws.{none-holds, none-first}
 use Rattle.wire.specs.Entry.{keyOf}
 use Rattle.store.specs.Maps.{lookup, used, heldRoom, insert}
 use Rattle.store.specs.Namespace.{Namespace}
@@ -21,7 +21,7 @@ use Rattle.commands.specs.History.{Call}
 use Rattle.commands.proofs.CommandLaws.{entry-key}
 use Rattle.promises.specs.Histories.{Start, begun, memoryAfter, storedAfter}
 use Rattle.promises.specs.Requests.{Request, call, sends, asked, viewAt, PassesI, Gives}
-use Rattle.promises.proofs.RequestLaws.{holds-after, none-first, entry-64, key-short, later-steps, gives}
+use Rattle.promises.proofs.RequestLaws.{holds-after, entry-64, early, later-steps, gives}
 use Rattle.promises.proofs.Examples.{onMap, onMemory, start, start-begun, A, store}
 
 module _ (s : Namespace) (m : Memory) (h : Holds s m) (k : Key) (v : List ℕ) (x : Request) (held : lookup k (s .pairs) ≡ some v)
@@ -32,7 +32,7 @@ module _ (s : Namespace) (m : Memory) (h : Holds s m) (k : Key) (v : List ℕ) (
       let c = asked x in
       let e = p .proper .passes in
       let room : heldRoom (keyOf c) (s .pairs) ≡ length (keyOf c) + length v = rw (p .proper .key, held) in
-      let long : length (keyOf c) ≡ c .len = omega (arith, length-take (c .len) (c .key), key-short s x e, entry-key (x .entry) (entry-64 s x e)) in
+      let long : length (keyOf c) ≡ c .len = omega (arith, length-take (c .len) (c .key), early s x e .sixteen, entry-key (x .entry) (entry-64 s x e)) in
       let fits = le-ltb (s .size) (used (s .pairs) - heldRoom (keyOf c) (s .pairs) + c .len + c .amount)
       (omega (arith, room, long, erase-used (keyOf c) (s .pairs), h .within .room)) in
       later-steps s x e ∙ none-first (stepI (viewAt s x) c) (stepJ (viewAt s x) c) (none-holds (stepI (viewAt s x) c) tt (p .keyed))

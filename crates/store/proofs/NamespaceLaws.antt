@@ -67,7 +67,7 @@ none-of i id n p = (
 )
 
 pub no-number : (i id n : ℕ) → Permitted i id n → firstOf (permitSteps i id n) ≡ 0
-no-number i id n p = none-first (permitSteps i id n) (none-of i id n p)
+no-number i id n p = none-first (permitSteps i id n) [] (none-of i id n p)
 
 pub record Within (s : Namespace) : Type 0 where
   pub permits : Permitted (s .index) (s .id) (s .size)

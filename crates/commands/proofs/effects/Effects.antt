@@ -59,7 +59,7 @@ module _ {c : Command} {k : Checked} {f : Found} (b : List ℕ) {d v : List ℕ}
 
   module _ (op : c .opcode ≡ 0x01) where
     pub value-lent : c .amount ≤ length b
-    value-lent = p .lent (rw op)
+    value-lent = p .early .lent (rw op)
 
     pub can-put : CanPut k f (take (c .amount) b) d v
     can-put =
@@ -85,7 +85,7 @@ module _ {c : Command} {k : Checked} {f : Found} (b : List ℕ) {d v : List ℕ}
   erased-is op e = made (rw op) (rw op) (rw op (rw (r .key) at e))
 
   pub can-hand : c .opcode ≡ 0x02 → CanHand k f (c .amount) d v b
-  can-hand op = record { erases = can-find (p .held (rw op)); lent = p .lent (rw op) }
+  can-hand op = record { erases = can-find (p .held (rw op)); lent = p .early .lent (rw op) }
 
   pub handed-is : {n : ℕ} {b′ : List ℕ} → c .opcode ≡ 0x02
       → (n ≡ length (valueOf (foundKey f) m)) × (b′ ≡ put 0 (take (c .amount) (valueOf (foundKey f) m)) b) → response 0 n b′ d v ≡ meant
@@ -96,7 +96,7 @@ module _ {c : Command} {k : Checked} {f : Found} (b : List ℕ) {d v : List ℕ}
   -- ---- List
 
   pub can-list : c .opcode ≡ 0x06 → CanList k f (c .amount) d b
-  can-list op = record { look = r .legal .look; looked = rw (keys-are (r .legal)) (r .looked); counted = p .counted (rw op); lent = p .lent (rw op) }
+  can-list op = record { look = r .legal .look; looked = rw (keys-are (r .legal)) (r .looked); counted = p .early .counted (rw op); lent = p .early .lent (rw op) }
 
   pub listed-is : {b′ : List ℕ} → c .opcode ≡ 0x06 → b′ ≡ put 0 (page (shown (c .amount) (foundKey f) (keysAt k d))) b → response 0 0 b′ d v ≡ meant
   listed-is op e = made (rw op) (rw op (rw (r .key, keys-are (r .legal)) at e)) (kept (rw op))
