@@ -96,7 +96,9 @@ module _ {c : Command} {k : Checked} {f : Found} (b : List ℕ) {d v : List ℕ}
   -- ---- List
 
   pub can-list : c .opcode ≡ 0x06 → CanList k f (c .amount) d b
-  can-list op = record { look = r .legal .look; looked = rw (keys-are (r .legal)) (r .looked); counted = p .early .counted (rw op); lent = p .early .lent (rw op) }
+  can-list op =
+      let e = p .early in
+      record { look = r .legal .look; looked = rw (keys-are (r .legal)) (r .looked); counted = e .counted (rw op); lent = e .lent (rw op) }
 
   pub listed-is : {b′ : List ℕ} → c .opcode ≡ 0x06 → b′ ≡ put 0 (page (shown (c .amount) (foundKey f) (keysAt k d))) b → response 0 0 b′ d v ≡ meant
   listed-is op e = made (rw op) (rw op (rw (r .key, keys-are (r .legal)) at e)) (kept (rw op))
