@@ -15,7 +15,7 @@ use Rattle.store.specs.Namespace.{Namespace, withPairs}
 use Rattle.store.proofs.MapLaws.{insert-rising}
 use Rattle.store.proofs.NamespaceLaws.{Within, insert-admitted}
 use Rattle.store.proofs.CountLaws.{insert-count, insert-used, erase-used, erase-within}
-use Rattle.commands.specs.Steps.{viewOf, statusOf}
+use Rattle.commands.specs.Steps.{viewOf, stockOf, statusOf}
 use Rattle.commands.specs.Answer.{answer}
 use Rattle.commands.proofs.StepLaws.{Passed, passed}
 
@@ -29,13 +29,13 @@ pub refused : (ok : Bool) (s : Namespace) (c : Command) (b : List ℕ) → eqb (
 unfolding answer
 refused ok s c b e = rw e
 
-pub unrefused : (ok : Bool) (s : Namespace) (c : Command) (n : ℕ) → statusOf ok s c n ≡ 0 → Passed (viewOf ok s c n) c
+pub unrefused : (ok : Bool) (s : Namespace) (c : Command) (n : ℕ) → statusOf ok s c n ≡ 0 → Passed (viewOf ok s n) (stockOf s (keyOf c)) c
 unfolding statusOf
-unrefused ok s c n e = passed (viewOf ok s c n) c e
+unrefused ok s c n e = passed (viewOf ok s n) (stockOf s (keyOf c)) c e
 
 -- a Store that no step refuses leaves a map within the limits
 pub store-within : (s : Namespace) (c : Command) (b : List ℕ) → Within s → length (c .key) ≡ 16 → isStore (c .opcode) ≡ true
-    → Passed (viewOf true s c (length b)) c → Within (withPairs s (insert (keyOf c) (take (c .amount) b) (s .pairs)))
+    → Passed (viewOf true s (length b)) (stockOf s (keyOf c)) c → Within (withPairs s (insert (keyOf c) (take (c .amount) b) (s .pairs)))
 store-within s c b w l o p =
     let k = keyOf c in
     let v = take (c .amount) b in

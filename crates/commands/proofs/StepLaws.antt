@@ -2,7 +2,6 @@
 -- Assumes nothing.
 use mathlib.Core.Path.{_≡_, refl}
 use mathlib.Core.Bool.{Bool, true, false, not, _&&_, _||_, and-true}
-use mathlib.Core.List.{_++_}
 use Prim.Native.Nat.{ℕ, _+_, _-_, _≤_, _<_}
 use native.Mathlib.Omega.{arith}
 use lib.Dec.{leb, ltb, eqb}
@@ -10,10 +9,11 @@ use borrow.Author.Tests.{ltb-false, eqb-true, eqb-false, not-false}
 use Rattle.octets.specs.Tests.{firstOf}
 use Rattle.octets.proofs.TestLaws.{neither, None, none-holds, none-parts, first-below}
 use Rattle.wire.specs.declared.entries.Command.{Command}
-use Rattle.wire.specs.Entry.{isStore, isRetrieve, isList, isDelete, isExist, known, ifPresent, ifAbsent}
+use Rattle.wire.specs.Entry.{keyOf, isStore, isRetrieve, isList, isDelete, isExist, known, ifPresent, ifAbsent}
 use Rattle.store.specs.Namespace.{Namespace}
 use Rattle.commands.specs.declared.steps.View.{View}
-use Rattle.commands.specs.Steps.{stepsToH, stepI, stepJ, steps, viewOf, statusOf}
+use Rattle.commands.specs.declared.steps.Stock.{Stock}
+use Rattle.commands.specs.Steps.{stepsToH, stepsFromI, steps, viewOf, stockOf, statusOf}
 
 pub record PassedToH (v : View) (c : Command) : Type 0 where
   -- a
@@ -35,14 +35,14 @@ pub record PassedToH (v : View) (c : Command) : Type 0 where
   -- h
   pub lent : (isStore (c .opcode) || isRetrieve (c .opcode) || isList (c .opcode)) ≡ true → c .amount ≤ v .room
 
-pub record Passed (v : View) (c : Command) : Type 0 where
+pub record Passed (v : View) (u : Stock) (c : Command) : Type 0 where
   pub early : PassedToH v c
   -- i
-  pub held : (isRetrieve (c .opcode) || isDelete (c .opcode) || isExist (c .opcode) || ifPresent c) ≡ true → v .held ≡ true
-  pub absent : ifAbsent c ≡ true → v .held ≡ false
+  pub held : (isRetrieve (c .opcode) || isDelete (c .opcode) || isExist (c .opcode) || ifPresent c) ≡ true → u .held ≡ true
+  pub absent : ifAbsent c ≡ true → u .held ≡ false
   -- j
-  pub slot : isStore (c .opcode) ≡ true → (not (v .held) && leb (v .format .maxkeys) (v .count)) ≡ false
-  pub room : isStore (c .opcode) ≡ true → v .used - v .old + c .len + c .amount ≤ v .size
+  pub slot : isStore (c .opcode) ≡ true → (not (u .held) && leb (u .maxkeys) (u .count)) ≡ false
+  pub room : isStore (c .opcode) ≡ true → u .used - u .old + c .len + c .amount ≤ u .size
 
 right-false : (a b : Bool) → (a && b) ≡ false → a ≡ true → b ≡ false
 right-false true b e h = e
@@ -72,30 +72,30 @@ passed-to-h v c a =
       lent = λ o. ltb-false (v .room) (c .amount) (right-false _ _ (h .0) o);
     }
 
-pub passed : (v : View) (c : Command) → firstOf (steps v c) ≡ 0 → Passed v c
+pub passed : (v : View) (u : Stock) (c : Command) → firstOf (steps v u c) ≡ 0 → Passed v u c
 unfolding steps
-passed v c none =
-    let parts = none-parts (stepsToH v c) (stepI v c ++ stepJ v c) (none-holds (steps v c) tt none) in
+passed v u c none =
+    let parts = none-parts (stepsToH v c) (stepsFromI u c) (none-holds (steps v u c) tt none) in
     let i = parts .1 in
     let i2 = i .1 in
     let j = i2 .1 in
     record {
       early = passed-to-h v c (parts .0);
-      held = λ o. not-false (v .held) (right-false _ _ (i .0) o);
+      held = λ o. not-false (u .held) (right-false _ _ (i .0) o);
       absent = right-false _ _ (i2 .0);
       slot = λ o. neither slots room (right-false _ _ (j .0) o) .0;
-      room = λ o. ltb-false (v .size) (v .used - v .old + c .len + c .amount) (neither slots room (right-false _ _ (j .0) o) .1);
+      room = λ o. ltb-false (u .size) (u .used - u .old + c .len + c .amount) (neither slots room (right-false _ _ (j .0) o) .1);
     }
   where
     slots : Bool
-    slots = not (v .held) && leb (v .format .maxkeys) (v .count)
+    slots = not (u .held) && leb (u .maxkeys) (u .count)
 
     room : Bool
-    room = ltb (v .size) (v .used - v .old + c .len + c .amount)
+    room = ltb (u .size) (u .used - u .old + c .len + c .amount)
 
 pub status-byte : (ok : Bool) (s : Namespace) (c : Command) (n : ℕ) → statusOf ok s c n < 256
 unfolding statusOf steps
-status-byte ok s c n = first-below 256 (steps (viewOf ok s c n) c) (omega arith) tt
+status-byte ok s c n = first-below 256 (steps (viewOf ok s n) (stockOf s (keyOf c)) c) (omega arith) tt
 
 -- memory that is not legal is answered with 06h
 pub illegal : (s : Namespace) (c : Command) (n : ℕ) → statusOf false s c n ≡ 0x06

@@ -1,2 +1,2 @@
--- What the table of steps sees.
+-- What the steps see.
 mod Seen

@@ -1,9 +1,10 @@
--- What a command leans on that no step refused: memory checked, key looked up, table asked. Assumes nothing.
+-- What a command leans on that steps a to h let pass, and one that no step refused. Assumes nothing.
 use mathlib.Core.Path.{_≡_}
 use mathlib.Core.Bool.{true}
 use mathlib.Core.List.{List}
 use Prim.Native.Nat.{ℕ}
 use lib.ListN.{length}
+use Rattle.octets.specs.Tests.{firstOf}
 use Rattle.wire.specs.declared.entries.Command.{Command}
 use Rattle.wire.specs.Entry.{keyOf}
 use Rattle.store.specs.declared.finds.Found.{Found}
@@ -12,9 +13,13 @@ use Rattle.store.specs.Finds.{foundKey}
 use Rattle.memory.specs.declared.checks.Checked.{Checked}
 use Rattle.memory.specs.Memory.{memory, namespaceOf, pairsOf}
 use Rattle.memory.specs.Checks.{Legal, Looked}
-use Rattle.commands.specs.Steps.{statusOf}
+use Rattle.commands.specs.Steps.{viewOf, stepsToH, statusOf}
 
 -- n is the length of the data buffer, d and v are the two slices
+pub record Admitted (c : Command) (k : Checked) (n : ℕ) (d v : List ℕ) : Type 0 where
+  pub legal : Legal k d v
+  pub early : firstOf (stepsToH (viewOf true (namespaceOf (memory d v)) n) c) ≡ 0
+
 pub record Ruled (c : Command) (k : Checked) (f : Found) (n : ℕ) (d v : List ℕ) : Type 0 where
   pub legal : Legal k d v
   pub looked : Looked f (keys (pairsOf (memory d v)))

@@ -1,14 +1,16 @@
--- The module's statuses: the table of steps a to j (docs/MANUAL.md, section 7), row by row and in its order. `View` is what they look at
--- beside the command. Assumes nothing.
+-- The module's statuses: the table of steps a to j (docs/MANUAL.md, section 7), row by row and in its order. Beside the command the steps to
+-- h look at a `View` and the later ones at a `Stock`. Assumes nothing.
 use mathlib.Core.Bool.{Bool, not, _&&_, _||_}
 use mathlib.Core.List.{List, [], _∷_, _++_}
 use Prim.Native.Nat.{ℕ, _+_, _-_}
 use lib.ListN.{length}
 use lib.Dec.{leb, ltb, eqb}
+use Rattle.octets.specs.Keys.{Key}
 use Rattle.octets.specs.Tests.{Row, row, firstOf}
 use Rattle.wire.specs.declared.entries.Command.{Command}
 use Rattle.wire.specs.Entry.{keyOf, isStore, isRetrieve, isList, isDelete, isExist, known, ifPresent, ifAbsent}
 use Rattle.commands.specs.declared.steps.View.{View}
+use Rattle.commands.specs.declared.steps.Stock.{Stock}
 use Rattle.commands.specs.declared.steps.Row.{Row as CodeRow}
 use Rattle.store.specs.Formats.{formatOf}
 use Rattle.store.specs.Maps.{present, used, heldRoom}
@@ -44,36 +46,40 @@ stepsToH v c =
     ∷ []
 
 -- no such key, or the key is there
-abbrev pub stepI : View → Command → List Row
-stepI v c =
-    row ((isRetrieve (c .opcode) || isDelete (c .opcode) || isExist (c .opcode) || ifPresent c) && not (v .held)) 0x87
-    ∷ row (ifAbsent c && v .held) 0x89
+abbrev pub stepI : Stock → Command → List Row
+stepI u c =
+    row ((isRetrieve (c .opcode) || isDelete (c .opcode) || isExist (c .opcode) || ifPresent c) && not (u .held)) 0x87
+    ∷ row (ifAbsent c && u .held) 0x89
     ∷ []
 
 -- no slot left, or no room once the old pair is taken off
-abbrev pub stepJ : View → Command → List Row
-stepJ v c =
-    row (isStore (c .opcode)
-    && (not (v .held) && leb (v .format .maxkeys) (v .count) || ltb (v .size) (v .used - v .old + c .len + c .amount))) 0x81
+abbrev pub stepJ : Stock → Command → List Row
+stepJ u c =
+    row (isStore (c .opcode) && (not (u .held) && leb (u .maxkeys) (u .count) || ltb (u .size) (u .used - u .old + c .len + c .amount))) 0x81
     ∷ []
 
-unfoldable pub steps : View → Command → List Row
-steps v c = stepsToH v c ++ stepI v c ++ stepJ v c
+-- what is asked once the key was looked for
+abbrev pub stepsFromI : Stock → Command → List Row
+stepsFromI u c = stepI u c ++ stepJ u c
+
+unfoldable pub steps : View → Stock → Command → List Row
+steps v u c = stepsToH v c ++ stepsFromI u c
 
 -- of a namespace, with a data buffer of n bytes
-abbrev pub viewOf : Bool → Namespace → Command → ℕ → View
-viewOf legal s c n =
+abbrev pub viewOf : Bool → Namespace → ℕ → View
+viewOf legal s n = record { legal = legal; format = formatOf (s .index); id = s .id; room = n }
+
+-- of a namespace and a key
+abbrev pub stockOf : Namespace → Key → Stock
+stockOf s k =
     record {
-      legal = legal;
-      format = formatOf (s .index);
-      id = s .id;
-      size = s .size;
-      count = length (s .pairs);
+      held = present k (s .pairs);
+      old = heldRoom k (s .pairs);
       used = used (s .pairs);
-      old = heldRoom (keyOf c) (s .pairs);
-      held = present (keyOf c) (s .pairs);
-      room = n;
+      count = length (s .pairs);
+      maxkeys = formatOf (s .index) .maxkeys;
+      size = s .size;
     }
 
 unfoldable pub statusOf : Bool → Namespace → Command → ℕ → ℕ
-statusOf legal s c n = firstOf (steps (viewOf legal s c n) c)
+statusOf legal s c n = firstOf (steps (viewOf legal s n) (stockOf s (keyOf c)) c)

@@ -1,7 +1,10 @@
 // One command, from its entry to its completion.
 use crate::effects::perform;
+use crate::steps::Stock;
 use crate::steps::View;
-use crate::steps::decide;
+use crate::steps::decide_early;
+use crate::steps::decide_late;
+use memory::checks::Checked;
 use memory::checks::check;
 use memory::looks::held_room;
 use memory::looks::look_up;
@@ -13,6 +16,7 @@ ghost use mathlib.Core.Path.{_≡_};
 ghost use lib.ListN.{length};
 ghost use Rattle.memory.specs.Memory.{memory};
 ghost use Rattle.commands.specs.Command.{response, respond, post, lent, serve, outcome, command};
+ghost use Rattle.commands.specs.Ruled.{Admitted};
 
 // What a command answers beside the slices.
 struct Reply {
@@ -20,34 +24,63 @@ struct Reply {
     dword0: u32,
 }
 
-// Steps a to j, and the effect where none refuses.
+// Steps i and j of a command that those before let pass, and the effect where neither refuses.
+fn carry_out(
+    c: Command,
+    k: Checked,
+    buffer: &mut [u8],
+    directory: &mut [u8],
+    values: &mut [u8],
+) -> Reply
+    requires { ⌜ Admitted c k (length (now buffer)) (now directory) (now values) ⌝ }
+    ensures { λ r.
+        ⌜ response (r .status) (r .dword0) (now (buffer .exit)) (now (directory .exit)) (now (values .exit))
+        ≡ respond c (now (buffer .entry)) (memory (now (directory .entry)) (now (values .entry))) ⌝ }
+{
+    let key = c.key;
+    let f = look_up(directory, k, key, c.len);
+    let old = held_room(directory, k, f);
+    let u = Stock {
+        held: f.held,
+        old,
+        used: k.used,
+        count: k.label.count,
+        maxkeys: k.format.maxkeys,
+        size: k.label.size,
+    };
+    let late = decide_late(c, u);
+    if late != 0 {
+        return Reply {
+            status: late,
+            dword0: 0,
+        };
+    }
+    let dword0 = perform(c, k, f, buffer, directory, values);
+    Reply { status: 0, dword0 }
+}
+
+// The key is not looked for before steps a to h have let the command pass.
 fn respond(c: Command, buffer: &mut [u8], directory: &mut [u8], values: &mut [u8]) -> Reply
     ensures { λ r.
         ⌜ response (r .status) (r .dword0) (now (buffer .exit)) (now (directory .exit)) (now (values .exit))
         ≡ respond c (now (buffer .entry)) (memory (now (directory .entry)) (now (values .entry))) ⌝ }
 {
     let k = check(directory, values);
-    let key = c.key;
-    let f = look_up(directory, k, key, c.len);
-    let old = held_room(directory, k, f);
     let format = k.format;
     let v = View {
         legal: k.ok,
         format,
         id: k.label.id,
-        size: k.label.size,
-        count: k.label.count,
-        used: k.used,
-        old,
-        held: f.held,
         room: buffer.len(),
     };
-    let status = decide(c, v);
-    if status != 0 {
-        return Reply { status, dword0: 0 };
+    let early = decide_early(c, v);
+    if early != 0 {
+        return Reply {
+            status: early,
+            dword0: 0,
+        };
     }
-    let dword0 = perform(c, k, f, buffer, directory, values);
-    Reply { status: 0, dword0 }
+    carry_out(c, k, buffer, directory, values)
 }
 
 // A command that is already read.

@@ -1,4 +1,5 @@
-// Steps a to j: the table of `specs/Steps.antt`, as an array of rows that computes to it.
+// Steps a to j: the table of `specs/Steps.antt`. Those to h are an array of rows that computes to it; the three that are left are asked one
+// after the other.
 use store::formats::Format;
 use wire::entries::Command;
 use wire::entries::DELETE;
@@ -10,27 +11,31 @@ ghost use mathlib.Core.Path.{_≡_};
 ghost use mathlib.Core.List.{map};
 ghost use Prim.Native.Nat.{_≤_};
 ghost use Rattle.octets.specs.Tests.{firstOf};
-ghost use Rattle.commands.specs.Steps.{rowOf, steps};
+ghost use Rattle.commands.specs.Steps.{rowOf, stepsToH, stepsFromI};
 
-// What the steps look at beside the command: whether memory is legal, the namespace's numbers, the used room, the room of the pair that
-// the key holds, whether it is held, and the length of the data buffer.
+// What the steps to h look at beside the command: whether memory is legal, the namespace's format and id, and the length of the data buffer.
 pub struct View {
     pub legal: bool,
     pub format: Format,
     pub id: u32,
-    pub size: u32,
-    pub count: u32,
-    pub used: u32,
-    pub old: u64,
-    pub held: bool,
     pub room: usize,
+}
+
+// What steps i and j look at: whether the key is held and the room of its pair, how full the namespace is, and its limits.
+pub struct Stock {
+    pub held: bool,
+    pub old: u64,
+    pub used: u32,
+    pub count: u32,
+    pub maxkeys: u32,
+    pub size: u32,
 }
 
 // A test, and the status that it names.
 pub struct Row(pub bool, pub u8);
 
 // The first status whose test holds, else 0.
-fn first_of(rows: [Row; 12]) -> u8
+fn first_of(rows: [Row; 9]) -> u8
     ensures { λ r. ⌜ r ≡ firstOf (map rowOf rows) ⌝ }
 {
     let mut i = 0;
@@ -44,9 +49,9 @@ fn first_of(rows: [Row; 12]) -> u8
     0
 }
 
-pub fn decide(c: Command, v: View) -> u8
-    requires { ⌜ v .old ≤ v .used ⌝ }
-    ensures { λ r. ⌜ r ≡ firstOf (steps v c) ⌝ }
+// Steps a to h.
+pub fn decide_early(c: Command, v: View) -> u8
+    ensures { λ r. ⌜ r ≡ firstOf (stepsToH v c) ⌝ }
 {
     let f = v.format;
     let store = c.opcode == STORE;
@@ -55,9 +60,6 @@ pub fn decide(c: Command, v: View) -> u8
     let delete = c.opcode == DELETE;
     let exist = c.opcode == EXIST;
     let short = v.room < c.amount as usize;
-    let exceeds = (v.size as u64) < v.used as u64 - v.old + c.len as u64 + c.amount as u64;
-    let if_present = store & (c.options % 2 == 1);
-    let if_absent = store & (c.options / 2 % 2 == 1);
     first_of([
         Row(!v.legal, 0x06),
         Row(!(store | retrieve | list | delete | exist), 0x01),
@@ -68,8 +70,27 @@ pub fn decide(c: Command, v: View) -> u8
         Row(store & (f.valuemax < c.amount), 0x85),
         Row(list & (c.amount < 4), 0x02),
         Row((store | retrieve | list) & short, 0x04),
-        Row((retrieve | delete | exist | if_present) & !v.held, 0x87),
-        Row(if_absent & v.held, 0x89),
-        Row(store & (!v.held & (f.maxkeys <= v.count) | exceeds), 0x81),
     ])
+}
+
+// Steps i and j.
+pub fn decide_late(c: Command, u: Stock) -> u8
+    requires { ⌜ u .old ≤ u .used ⌝ }
+    ensures { λ r. ⌜ r ≡ firstOf (stepsFromI u c) ⌝ }
+{
+    let store = c.opcode == STORE;
+    let if_present = store & (c.options % 2 == 1);
+    let if_absent = store & (c.options / 2 % 2 == 1);
+    let needs = (c.opcode == RETRIEVE) | (c.opcode == DELETE) | (c.opcode == EXIST) | if_present;
+    let exceeds = (u.size as u64) < u.used as u64 - u.old + c.len as u64 + c.amount as u64;
+    if needs & !u.held {
+        return 0x87;
+    }
+    if if_absent & u.held {
+        return 0x89;
+    }
+    if store & (!u.held & (u.maxkeys <= u.count) | exceeds) {
+        return 0x81;
+    }
+    0
 }

@@ -1,6 +1,6 @@
 -- What the check says of legal memory: its numbers, where its parts lie, and what stands in them. Assumes nothing.
-use mathlib.Core.Path.{_≡_, refl, sym, ap, _∙_}
-use mathlib.Core.Bool.{Bool, true, false}
+use mathlib.Core.Path.{_≡_, sym, ap, _∙_}
+use mathlib.Core.Bool.{true}
 use mathlib.Core.List.{List}
 use Prim.Native.Nat.{ℕ, _-_, _*_}
 use native.Mathlib.Omega.{arith}
@@ -17,7 +17,7 @@ use Rattle.store.proofs.RankLaws.{keys-in}
 use Rattle.store.proofs.LegalLaws.{Legal as Part, keys-fit}
 use Rattle.memory.specs.declared.checks.Checked.{Checked}
 use Rattle.memory.specs.Memory.{Memory, memory, labelOf, recordsIn, valuesIn, namespaceOf, pairsOf, legal}
-use Rattle.memory.specs.Checks.{notLegal, numbersOf, checked, recordsAt, valuesAt, keysAt, CanLook, Legal}
+use Rattle.memory.specs.Checks.{numbersOf, checked, recordsAt, valuesAt, keysAt, CanLook, Legal}
 use Rattle.memory.proofs.ImageLaws.{Holds, legal-holds, part-held, formattable-held}
 
 -- ---- the check's answer
@@ -53,24 +53,6 @@ legal-checked {k} d v e ok =
     let h = legal-holds (memory d v) l in
     let is : k ≡ numbersOf (namespaceOf (memory d v)) = rw l at e in
     record { look = rw is (look-at h); head = omega (arith, formattable-held h .directory); fits = rw is (formattable-held h .values); legal = l; is = is }
-
--- and where it does not, no key is found
-pub look-checked : {k : Checked} (d v : List ℕ) → k ≡ checked (memory d v) → CanLook k d
-unfolding checked
-look-checked {k} d v e = by (legal (memory d v)) refl
-  where
-    by : (x : Bool) → legal (memory d v) ≡ x → CanLook k d
-    by true l =
-        let is : k ≡ numbersOf (namespaceOf (memory d v)) = rw l at e in
-        rw is (look-at (legal-holds (memory d v) l))
-    by false l =
-        let is : k ≡ notLegal = rw l at e in
-        rw is
-        (record {
-          order = omega arith;
-          lies = omega arith;
-          fit = record { lie = omega arith; few = omega arith; fit = λ j i. absurd (omega arith); rise = refl };
-        })
 
 -- ---- what stands in the parts
 

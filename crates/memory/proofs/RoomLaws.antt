@@ -1,11 +1,11 @@
 -- The pair that a key looked up holds: its slot, its value, and its room, which is part of the sum that the check has made. Assumes nothing.
 use mathlib.Core.Path.{_≡_, refl, sym, ap, _∙_}
-use mathlib.Core.Bool.{true, false}
+use mathlib.Core.Bool.{true}
 use mathlib.Core.List.{List, []}
 use Prim.Native.Nat.{ℕ, _≤_, _<_}
 use native.Mathlib.Omega.{arith}
 use lib.ListN.{length, length-take}
-use Rattle.octets.proofs.TestLaws.{known, holds, fails, contrary}
+use Rattle.octets.proofs.TestLaws.{known, holds, fails}
 use Rattle.store.specs.declared.finds.Found.{Found}
 use Rattle.store.specs.Maps.{Pair, pair, keys, present, valueOf, used, heldRoom}
 use Rattle.store.specs.Finds.{found, foundKey}
@@ -14,9 +14,9 @@ use Rattle.store.proofs.CountLaws.{erase-used}
 use Rattle.store.proofs.SlotLaws.{value-length-at}
 use Rattle.store.proofs.RankLaws.{rank-le, rank-held, length-keys, value-held, has-present}
 use Rattle.memory.specs.declared.checks.Checked.{Checked}
-use Rattle.memory.specs.Memory.{memory, pairsOf, legal}
-use Rattle.memory.specs.Checks.{checked, notLegal, keysAt, roomAt, Legal, Looked, CanWeigh}
-use Rattle.memory.proofs.LegalLaws.{checked-legal, legal-checked, look-checked, keys-are, count-is, part-is}
+use Rattle.memory.specs.Memory.{memory, pairsOf}
+use Rattle.memory.specs.Checks.{keysAt, roomAt, Legal, Looked, CanWeigh}
+use Rattle.memory.proofs.LegalLaws.{keys-are, count-is, part-is}
 
 module _ {f : Found} (m : List Pair) (l : Looked f (keys m)) where
   pub slot-le : f .slot ≤ length m
@@ -49,24 +49,10 @@ module _ {k : Checked} {f : Found} {d v : List ℕ} (g : Legal k d v) (l : Looke
             rw (same, e) (omega (arith, n, length-take (f .len) (f .key), l .short))
       ]
 
-  room-sum : roomAt k f d ≤ k .used
+  pub room-sum : roomAt k f d ≤ k .used
   room-sum =
       let sum : k .used ≡ used m = rw (g .is) in
       omega (arith, sum, room-is, erase-used (foundKey f) m)
 
--- and in other memory no key is held
-module _ {k : Checked} {f : Found} (key : List ℕ) (n : ℕ) (d v : List ℕ) (l : length key ≡ 16) (ek : k ≡ checked (memory d v))
-    (ef : f ≡ found key n (keysAt k d)) where
-  pub can-weigh : CanWeigh k f d × (roomAt k f d ≤ k .used)
-  unfolding checked
-  can-weigh =
-      elim (known (legal (memory d v))) [
-        | holds e ↦
-            let g = legal-checked d v ek (rw ek (checked-legal (memory d v)) ∙ e) in
-            let at = looked-in g key n ef in
-            (record { look = g .look; slot = λ h. omega (arith, slot-lt (pairsOf (memory d v)) at h, count-is g) }, room-sum g at (rw ef l))
-        | fails e ↦
-            let is : k ≡ notLegal = rw e at ek in
-            let none : f .held ≡ false = rw (ef, is) in
-            (record { look = look-checked d v ek; slot = λ h. absurd (contrary (sym none ∙ h)) }, rw none (omega arith))
-      ]
+  pub can-weigh : CanWeigh k f d
+  can-weigh = record { look = g .look; slot = λ h. omega (arith, slot-lt m l h, count-is g) }

@@ -15,7 +15,6 @@ ghost use Rattle.store.specs.Finds.{found, foundKey};
 ghost use Rattle.memory.specs.Memory.{memory, pairsOf};
 ghost use Rattle.memory.specs.Checks.{keysAt, roomAt, CanLook, CanWeigh, CanHand, CanList};
 
-// In memory that is not legal no key is found.
 pub fn look_up(directory: &[u8], k: Checked, key: [u8; 16], len: u8) -> Found
     requires { ⌜ CanLook k (now directory) ⌝ }
     ensures { λ r. ⌜ r ≡ found key len (keysAt k (now (directory .entry))) ⌝ }

@@ -93,6 +93,11 @@ pub none-first : (rs qs : List Row) → None rs → firstOf (rs ++ qs) ≡ first
 none-first [] qs n = refl
 none-first (r ∷ rs) qs n = rw (n .0) (none-first rs qs (n .1))
 
+-- and where one of them holds, they decide
+pub some-first : (rs qs : List Row) → (firstOf rs ≡ 0 → ⊥) → firstOf (rs ++ qs) ≡ firstOf rs
+some-first [] qs h = absurd (h refl)
+some-first (r ∷ rs) qs h = elim (known (r .when)) [ holds e ↦ rw e | fails e ↦ rw e (some-first rs qs (rw e at h)) ]
+
 pub none-parts : (rs qs : List Row) → None (rs ++ qs) → None rs × None qs
 none-parts [] qs n = (tt, n)
 none-parts (r ∷ rs) qs n =

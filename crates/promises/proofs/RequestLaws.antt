@@ -2,7 +2,7 @@
 -- status. Assumes nothing.
 use mathlib.Core.Path.{_≡_, sym, ap, _∙_}
 use mathlib.Core.Bool.{true}
-use mathlib.Core.List.{List, _∷_, _++_}
+use mathlib.Core.List.{List, _∷_}
 use Prim.Native.Nat.{_^_, _<_}
 use lib.ListN.{length}
 use borrow.Author.Tests.{eqb-true, not-false}
@@ -11,7 +11,7 @@ use Rattle.octets.proofs.TestLaws.{None, none-holds, none-first}
 use Rattle.wire.specs.Entry.{notEntry}
 use Rattle.wire.specs.Completion.{notCompletion}
 use Rattle.store.specs.Namespace.{Namespace, fresh}
-use Rattle.commands.specs.Steps.{steps, stepsToH, stepI, stepJ, statusOf}
+use Rattle.commands.specs.Steps.{steps, stepsToH, stepsFromI, statusOf}
 use Rattle.commands.specs.Answer.{Answer, answer}
 use Rattle.memory.specs.Memory.{Memory}
 use Rattle.commands.proofs.StepLaws.{PassedToH, passed-to-h}
@@ -21,7 +21,7 @@ use Rattle.commands.proofs.CommandLaws.{format-holds}
 use Rattle.commands.proofs.HistoryLaws.{told-calls, call-number, call-status, call-dword0, call-buffer}
 use Rattle.commands.specs.History.{Call}
 use Rattle.promises.specs.Histories.{Start, begun, memoryAfter, storedAfter}
-use Rattle.promises.specs.Requests.{Request, sends, asked, viewAt, refusal, Gives}
+use Rattle.promises.specs.Requests.{Request, sends, asked, viewAt, stockAt, refusal, Gives}
 
 pub holds-after : (a : Start) (xs : List Call) → begun a .number ≡ 0 → Holds (storedAfter a xs) (memoryAfter a xs)
 holds-after a xs ok =
@@ -43,9 +43,9 @@ module _ (s : Namespace) (x : Request) (e : refusal s x ≡ 0) where
   pub early : PassedToH (viewAt s x) (asked x)
   early = passed-to-h (viewAt s x) (asked x) (none .1 .1)
 
-  pub later-steps : statusOf true s (asked x) (length (x .buffer)) ≡ firstOf (stepI (viewAt s x) (asked x) ++ stepJ (viewAt s x) (asked x))
+  pub later-steps : statusOf true s (asked x) (length (x .buffer)) ≡ firstOf (stepsFromI (stockAt s x) (asked x))
   unfolding statusOf steps
-  later-steps = none-first (stepsToH (viewAt s x) (asked x)) (stepI (viewAt s x) (asked x) ++ stepJ (viewAt s x) (asked x)) (none .1 .1)
+  later-steps = none-first (stepsToH (viewAt s x) (asked x)) (stepsFromI (stockAt s x) (asked x)) (none .1 .1)
 
 -- ---- what it is answered on memory that holds s
 

@@ -20,7 +20,7 @@ use Rattle.commands.specs.Answer.{answer}
 use Rattle.commands.specs.History.{Call}
 use Rattle.commands.proofs.CommandLaws.{entry-key}
 use Rattle.promises.specs.Histories.{Start, begun, memoryAfter, storedAfter}
-use Rattle.promises.specs.Requests.{Request, call, sends, asked, viewAt, PassesI, Gives}
+use Rattle.promises.specs.Requests.{Request, call, sends, asked, stockAt, PassesI, Gives}
 use Rattle.promises.proofs.RequestLaws.{holds-after, entry-64, early, later-steps, gives}
 use Rattle.promises.proofs.Examples.{onMap, onMemory, start, start-begun, A, store}
 
@@ -35,7 +35,7 @@ module _ (s : Namespace) (m : Memory) (h : Holds s m) (k : Key) (v : List ℕ) (
       let long : length (keyOf c) ≡ c .len = omega (arith, length-take (c .len) (c .key), early s x e .sixteen, entry-key (x .entry) (entry-64 s x e)) in
       let fits = le-ltb (s .size) (used (s .pairs) - heldRoom (keyOf c) (s .pairs) + c .len + c .amount)
       (omega (arith, room, long, erase-used (keyOf c) (s .pairs), h .within .room)) in
-      later-steps s x e ∙ none-first (stepI (viewAt s x) c) (stepJ (viewAt s x) c) (none-holds (stepI (viewAt s x) c) tt (p .keyed))
+      later-steps s x e ∙ none-first (stepI (stockAt s x) c) (stepJ (stockAt s x) c) (none-holds (stepI (stockAt s x) c) tt (p .keyed))
       ∙ rw (p .proper .opcode, fits, p .proper .key, held)
 
   again : Gives 0x00 0 (x .buffer) (sends m x)

@@ -12,7 +12,8 @@ use Rattle.wire.specs.Entry.{readCommand, keyOf, isStore, notEntry}
 use Rattle.wire.specs.Completion.{readCompletion, notCompletion}
 use Rattle.store.specs.Namespace.{Namespace}
 use Rattle.commands.specs.declared.steps.View.{View}
-use Rattle.commands.specs.Steps.{viewOf, stepsToH, stepI}
+use Rattle.commands.specs.declared.steps.Stock.{Stock}
+use Rattle.commands.specs.Steps.{viewOf, stockOf, stepsToH, stepI}
 use Rattle.commands.specs.Answer.{Answer}
 use Rattle.memory.specs.Memory.{Memory}
 use Rattle.commands.specs.Command.{Post, Outcome}
@@ -39,7 +40,10 @@ bothBits c = isStore (c .opcode) && eqb (c .options % 4) 3
 
 -- what the steps look at where s is stored
 abbrev pub viewAt : Namespace → Request → View
-viewAt s x = viewOf true s (asked x) (length (x .buffer))
+viewAt s x = viewOf true s (length (x .buffer))
+
+abbrev pub stockAt : Namespace → Request → Stock
+stockAt s x = stockOf s (keyOf (asked x))
 
 -- what numbers 1 and 2 and steps a to h say, 0 if none refuses; memory is legal after a formatting, so step a never does
 unfoldable pub refusal : Namespace → Request → ℕ
@@ -54,7 +58,7 @@ pub record Proper (s : Namespace) (op : ℕ) (k : Key) (x : Request) : Type 0 wh
 -- and step i lets it pass as well
 pub record PassesI (s : Namespace) (op : ℕ) (k : Key) (x : Request) : Type 0 where
   pub proper : Proper s op k x
-  pub keyed : firstOf (stepI (viewAt s x) (asked x)) ≡ 0
+  pub keyed : firstOf (stepI (stockAt s x) (asked x)) ≡ 0
 
 -- number 0, and with it status, Dword 0 and the data buffer afterwards
 pub record Gives (st n : ℕ) (b : List ℕ) (o : Outcome) : Type 0 where

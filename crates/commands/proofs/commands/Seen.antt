@@ -1,114 +1,112 @@
--- What the table of steps sees of checked memory is what it is defined to look at. Assumes nothing.
-use mathlib.Core.Path.{_≡_, refl, sym, _∙_}
-use mathlib.Core.Bool.{Bool, true, false}
+-- What the steps see of checked memory, and of a key looked up in it, is what they are defined to look at. Assumes nothing.
+use mathlib.Core.Path.{_≡_, sym, _∙_}
+use mathlib.Core.Bool.{true, false}
 use mathlib.Core.List.{List}
-use Prim.Native.Nat.{ℕ, min, _≤_, _<_}
-use native.Mathlib.Decide.{decLt}
+use Prim.Native.Nat.{ℕ, min, _≤_}
 use native.Mathlib.Omega.{arith}
 use lib.Dec.{eqb}
-use lib.ListN.{length, take}
-use lib.Seq.{take-all}
+use lib.ListN.{length}
 use borrow.Author.Tests.{ne-eqb}
 use Rattle.octets.specs.Tests.{firstOf}
+use Rattle.octets.proofs.TestLaws.{none-holds, none-first, some-first, known, holds, fails}
 use Rattle.wire.specs.declared.entries.Command.{Command}
 use Rattle.wire.specs.Entry.{keyOf}
 use Rattle.store.specs.declared.finds.Found.{Found}
 use Rattle.store.specs.Maps.{keys, present, heldRoom}
+use Rattle.store.specs.Namespace.{Namespace}
 use Rattle.store.specs.Finds.{found, foundKey}
 use Rattle.store.proofs.RankLaws.{has-present}
 use Rattle.memory.specs.declared.checks.Checked.{Checked}
 use Rattle.memory.specs.Memory.{memory, namespaceOf, pairsOf, legal}
-use Rattle.memory.specs.Checks.{checked, keysAt, roomAt, Legal, Looked}
+use Rattle.memory.specs.Checks.{checked, keysAt, roomAt, Looked, CanWeigh}
 use Rattle.memory.proofs.LegalLaws.{checked-legal, legal-checked}
-use Rattle.memory.proofs.RoomLaws.{looked-in, room-is}
+use Rattle.memory.proofs.RoomLaws.{looked-in, room-is, room-sum, can-weigh}
 use Rattle.commands.specs.declared.steps.View.{View}
-use Rattle.commands.specs.Steps.{viewOf, steps, statusOf}
+use Rattle.commands.specs.declared.steps.Stock.{Stock}
+use Rattle.commands.specs.Steps.{viewOf, stockOf, stepsToH, stepsFromI, steps, statusOf}
 use Rattle.commands.specs.Command.{response, respond}
-use Rattle.commands.specs.Ruled.{Ruled}
-use Rattle.commands.proofs.StepLaws.{illegal}
+use Rattle.commands.specs.Ruled.{Admitted, Ruled}
+use Rattle.commands.proofs.StepLaws.{PassedToH, passed-to-h}
 use Rattle.commands.proofs.AnswerLaws.{refused}
 
--- a length above 16 takes no more than 16 of sixteen bytes
-clamped : (n : ℕ) (key : List ℕ) → length key ≡ 16 → take (min n 16) key ≡ take n key
-clamped n key l = elim (decLt n 16) [ yes h ↦ short h | no h ↦ long (omega (arith, h)) ]
-  where
-    short : n < 16 → take (min n 16) key ≡ take n key
-    short h =
-        let e : min n 16 ≡ n = omega arith in
-        rw e
+-- what the code asks with
+abbrev pub view : Checked → ℕ → View
+view k n = record { legal = k .ok; format = k .format; id = k .label .id; room = n }
 
-    long : 16 ≤ n → take (min n 16) key ≡ take n key
-    long h =
-        let e : min n 16 ≡ 16 = omega arith in
-        rw e (take-all 16 key (omega arith) ∙ sym (take-all n key (omega arith)))
+abbrev pub stock : Checked → Found → ℕ → Stock
+stock k f old =
+    record { held = f .held; old = old; used = k .used; count = k .label .count; maxkeys = k .format .maxkeys; size = k .label .size }
 
--- what the code asks the table with
-abbrev pub view : Checked → Found → ℕ → ℕ → View
-view k f old n =
-    record {
-      legal = k .ok;
-      format = k .format;
-      id = k .label .id;
-      size = k .label .size;
-      count = k .label .count;
-      used = k .used;
-      old = old;
-      held = f .held;
-      room = n;
-    }
+module _ (c : Command) (b d v : List ℕ) where
+  abbrev s : Namespace
+  s = namespaceOf (memory d v)
 
-not-legal : (x : View) (c : Command) → x .legal ≡ false → firstOf (steps x c) ≡ 0x06
-unfolding steps
-not-legal x c e = rw e
+  -- a status that is not 00h is all that is answered
+  refusing : {st : ℕ} → statusOf (legal (memory d v)) s c (length b) ≡ st → (st ≡ 0 → ⊥) → response st 0 b d v ≡ respond c b (memory d v)
+  unfolding respond
+  refusing {st} e q =
+      let z : eqb (statusOf (legal (memory d v)) s c (length b)) 0 ≡ false = rw e (ne-eqb st 0 q) in
+      rw (refused (legal (memory d v)) s c b z, z, e)
 
-module _ (c : Command) {k : Checked} {f : Found} {old : ℕ} (d v : List ℕ) (l : length (c .key) ≡ 16) (ek : k ≡ checked (memory d v))
-    (ef : f ≡ found (c .key) (c .len) (keysAt k d)) (eo : old ≡ roomAt k f d) where
-  key-is : foundKey f ≡ keyOf c
-  key-is = rw ef (clamped (c .len) (c .key) l)
+  -- ---- steps a to h
 
-  looked-at : Legal k d v → Looked f (keys (pairsOf (memory d v)))
-  looked-at g = looked-in g (c .key) (c .len) ef
+  module _ {k : Checked} (ek : k ≡ checked (memory d v)) {st : ℕ} (e : st ≡ firstOf (stepsToH (view k (length b)) c)) where
+    ok-is : k .ok ≡ legal (memory d v)
+    ok-is = rw ek (checked-legal (memory d v))
 
-  ok-is : k .ok ≡ legal (memory d v)
-  ok-is = rw ek (checked-legal (memory d v))
+    early-is : st ≡ firstOf (stepsToH (viewOf (legal (memory d v)) s (length b)) c)
+    early-is =
+        elim (known (legal (memory d v))) [
+          | holds o ↦ e ∙ rw (legal-checked d v ek (ok-is ∙ o) .is, o)
+          | fails o ↦ e ∙ rw (ok-is, o)
+        ]
 
-  seen : (n : ℕ) → firstOf (steps (view k f old n) c) ≡ statusOf (legal (memory d v)) (namespaceOf (memory d v)) c n
-  unfolding statusOf
-  seen n = go (legal (memory d v)) refl
-    where
-      go : (z : Bool) → legal (memory d v) ≡ z → firstOf (steps (view k f old n) c) ≡ firstOf (steps (viewOf z (namespaceOf (memory d v)) c n) c)
-      go true o =
-          let g = legal-checked d v ek (ok-is ∙ o) in
-          let held : f .held ≡ present (keyOf c) (pairsOf (memory d v)) = looked-at g .held ∙ rw key-is (has-present (keyOf c) (pairsOf (memory d v))) in
-          let room : old ≡ heldRoom (keyOf c) (pairsOf (memory d v)) = eo ∙ room-is g (looked-at g) (rw ef l) ∙ rw key-is in
-          rw (held, room, g .is)
-      go false o = not-legal (view k f old n) c (ok-is ∙ o) ∙ sym (not-legal (viewOf false (namespaceOf (memory d v)) c n) c refl)
+    pub refused-early : (st ≡ 0 → ⊥) → response st 0 b d v ≡ respond c b (memory d v)
+    unfolding statusOf steps
+    refused-early q =
+        let x = viewOf (legal (memory d v)) s (length b) in
+        refusing (some-first (stepsToH x c) (stepsFromI (stockOf s (keyOf c)) c) (rw early-is at q) ∙ sym early-is) q
 
-  module _ (b : List ℕ) {st : ℕ} (e : st ≡ firstOf (steps (view k f old (length b)) c)) where
-    status-is : st ≡ statusOf (legal (memory d v)) (namespaceOf (memory d v)) c (length b)
-    status-is = e ∙ seen (length b)
+    pub admitted : st ≡ 0 → Admitted c k (length b) d v
+    admitted q =
+        elim (known (legal (memory d v))) [
+          | holds o ↦ record { legal = legal-checked d v ek (ok-is ∙ o); early = rw o at (sym early-is ∙ q) }
+          | fails o ↦ absurd (omega (arith, rw o at (sym early-is ∙ q)))
+        ]
 
-    pub refused-is : (st ≡ 0 → ⊥) → response st 0 b d v ≡ respond c b (memory d v)
-    unfolding respond
-    refused-is q =
-        let z : eqb (statusOf (legal (memory d v)) (namespaceOf (memory d v)) c (length b)) 0 ≡ false = rw status-is at (ne-eqb st 0 q) in
-        rw (refused (legal (memory d v)) (namespaceOf (memory d v)) c b z, z, status-is)
+  -- ---- steps i and j
 
-    pub ruled : st ≡ 0 → Ruled c k f (length b) d v
-    ruled q =
-        let o : legal (memory d v) ≡ true = by (legal (memory d v)) refl in
-        let g = legal-checked d v ek (ok-is ∙ o) in
-        record {
-          legal = g;
-          looked = looked-at g;
-          key = key-is;
-          sixteen = rw ef l;
-          given = l;
-          status = rw o at (sym status-is ∙ q);
-        }
-      where
-        by : (z : Bool) → legal (memory d v) ≡ z → legal (memory d v) ≡ true
-        by true y = y
-        by false y =
-            let six = illegal (namespaceOf (memory d v)) c (length b) in
-            absurd (omega (arith, rw y at (sym status-is ∙ q)))
+  module _ {k : Checked} {f : Found} (a : Admitted c k (length b) d v) (l : length (c .key) ≡ 16)
+      (ef : f ≡ found (c .key) (c .len) (keysAt k d)) where
+    early : PassedToH (viewOf true s (length b)) c
+    early = passed-to-h _ c (none-holds (stepsToH (viewOf true s (length b)) c) tt (a .early))
+
+    key-is : foundKey f ≡ keyOf c
+    key-is =
+        let n : min (c .len) 16 ≡ c .len = omega (arith, early .sixteen) in
+        rw (ef, n)
+
+    looked : Looked f (keys (pairsOf (memory d v)))
+    looked = looked-in (a .legal) (c .key) (c .len) ef
+
+    pub weighs : CanWeigh k f d
+    weighs = can-weigh (a .legal) looked (rw ef l)
+
+    pub weighed : roomAt k f d ≤ k .used
+    weighed = room-sum (a .legal) looked (rw ef l)
+
+    module _ {old st : ℕ} (eo : old ≡ roomAt k f d) (e : st ≡ firstOf (stepsFromI (stock k f old) c)) where
+      status-is : statusOf true s c (length b) ≡ st
+      unfolding statusOf steps
+      status-is =
+          let held : f .held ≡ present (keyOf c) (pairsOf (memory d v)) = looked .held ∙ rw key-is (has-present (keyOf c) (pairsOf (memory d v))) in
+          let room : old ≡ heldRoom (keyOf c) (pairsOf (memory d v)) = eo ∙ room-is (a .legal) looked (rw ef l) ∙ rw key-is in
+          let x = viewOf true s (length b) in
+          none-first (stepsToH x c) (stepsFromI (stockOf s (keyOf c)) c) (none-holds (stepsToH x c) tt (a .early))
+          ∙ sym (e ∙ rw (held, room, a .legal .is))
+
+      pub refused-late : (st ≡ 0 → ⊥) → response st 0 b d v ≡ respond c b (memory d v)
+      refused-late q = refusing (rw (a .legal .legal) status-is) q
+
+      pub ruled : st ≡ 0 → Ruled c k f (length b) d v
+      ruled q = record { legal = a .legal; looked = looked; key = key-is; sixteen = rw ef l; given = l; status = status-is ∙ q }

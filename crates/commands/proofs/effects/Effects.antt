@@ -20,7 +20,7 @@ use Rattle.memory.specs.Memory.{Memory, memory, imageOver, imageWith, namespace
 use Rattle.memory.specs.Checks.{keysAt, CanPut, CanErase, CanHand, CanList}
 use Rattle.memory.proofs.ImageLaws.{holds-over}
 use Rattle.memory.proofs.LegalLaws.{holds-in, keys-are}
-use Rattle.commands.specs.Steps.{viewOf}
+use Rattle.commands.specs.Steps.{viewOf, stockOf}
 use Rattle.commands.specs.Answer.{answer, dwordAfter, bufferAfter, pairsAfter}
 use Rattle.commands.specs.Command.{Response, response, respond}
 use Rattle.commands.specs.Ruled.{Ruled}
@@ -34,7 +34,7 @@ module _ {c : Command} {k : Checked} {f : Found} (b : List ℕ) {d v : List ℕ}
   abbrev m : List Pair
   m = pairsOf (memory d v)
 
-  p : Passed (viewOf true s c (length b)) c
+  p : Passed (viewOf true s (length b)) (stockOf s (keyOf c)) c
   p = unrefused true s c (length b) (r .status)
 
   -- the memory that is to be left, and what is defined of a command that no step refuses
@@ -75,7 +75,7 @@ module _ {c : Command} {k : Checked} {f : Found} (b : List ℕ) {d v : List ℕ}
 
   -- ---- a key that is held: Retrieve, Delete
 
-  can-find : viewOf true s c (length b) .held ≡ true → CanErase k f d v
+  can-find : stockOf s (keyOf c) .held ≡ true → CanErase k f d v
   can-find h = record { legal = r .legal; looked = r .looked; held = r .looked .held ∙ rw (r .key) (has-present (keyOf c) m) ∙ h }
 
   pub can-erase : c .opcode ≡ 0x10 → CanErase k f d v

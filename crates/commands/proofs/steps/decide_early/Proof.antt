@@ -1,0 +1,11 @@
+use borrow.Author.Needs.{needs}
+use Rattle.commands.proofs.steps.decide_early.Statement.{statement}
+use Rattle.commands.proofs.steps.decide_early.Tie as tie
+
+returns : tie.Need-returns
+returns c = c .first-of .ensures
+
+pub decide-early-spec : {M : Type 1} → statement M
+decide-early-spec =
+    tie.close
+    (tie.spec (λ c. search needs) (λ c κs. search needs) returns)
