@@ -33,7 +33,7 @@ enum {
 enum {
     KV_SUCCESS = 0x00,
     KV_INVALID_OPCODE = 0x01,
-    KV_INVALID_FIELD = 0x02,
+    KV_INVALID_FIELD = 0x02,  /* fused bits, key length above 16, a byte behind the key, List into fewer than 4 bytes */
     KV_DATA_TRANSFER = 0x04,  /* data buffer shorter than Dword 10 */
     KV_INTERNAL = 0x06,       /* store memory not legal */
     KV_INVALID_NAMESPACE = 0x0b,
@@ -52,7 +52,8 @@ uint32_t kv_format(uint32_t index, uint32_t id, uint64_t size, uint8_t *director
                    size_t values_len);
 
 /* One command: reads the 64-byte entry, acts on the store, writes the 16-byte completion. `data` is the command's data buffer:
- * Store reads its first bytes, Retrieve and List write them. Numbers 1, 2, tried in that order. Of `phase` the lowest bit counts. */
+ * Store reads its first bytes, Retrieve and List write them. In the entry the key bytes behind the key length must be zero. Numbers 1,
+ * 2, tried in that order. Of `phase` the lowest bit counts. */
 uint32_t kv_command(const uint8_t *entry, size_t entry_len, uint8_t *completion, size_t completion_len, uint8_t *data,
                     size_t data_len, uint8_t *directory, size_t directory_len, uint8_t *values, size_t values_len, uint16_t head,
                     uint16_t queue, uint16_t phase);

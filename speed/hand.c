@@ -105,13 +105,14 @@ static void erase(struct store *s, uint32_t slot) {
     raise(s, slot, -v);
 }
 
-static void insert(struct store *s, uint32_t slot, const uint8_t *key, uint32_t len, const uint8_t *value, uint32_t v) {
+static void insert(struct store *s, uint32_t slot, const uint8_t *e, uint32_t len, const uint8_t *value, uint32_t v) {
     uint8_t *r = s->records + 32 * slot;
     uint32_t place = slot < s->h.count ? load32(r + 20) : s->total;
     memmove(s->values + place + v, s->values + place, s->total - place);
     memcpy(s->values + place, value, v);
     memmove(r + 32, r, 32 * (s->h.count - slot));
-    memcpy(r, key, 16);
+    memcpy(r, e + 8, 8);
+    memcpy(r + 8, e + 56, 8);
     save32(r + 16, len);
     save32(r + 20, place);
     save32(r + 24, v);
@@ -159,22 +160,21 @@ static int step(const uint8_t *e, uint8_t *data, size_t data_len, uint8_t *direc
     if (e[1] & 3) return 0x02;
     if (load32(e + 4) != s.h.id) return 0x0b;
     if (len > 16) return 0x02;
+    struct wide key = { __builtin_bswap64(load64(e + 8)), __builtin_bswap64(load64(e + 56)) };
+    if (!padded(key, len)) return 0x02;
     if (len > s.keymax || (len == 0 && !lists)) return 0x86;
     if (store && amount > s.valuemax) return 0x85;
     if (lists && amount < 4) return 0x02;
     if ((store | retrieve | lists) && data_len < amount) return 0x04;
-    uint8_t key[16] = { 0 };
-    memcpy(key, e + 8, len < 8 ? len : 8);
-    if (len > 8) memcpy(key + 8, e + 56, len - 8);
     int held;
-    uint32_t slot = find(&s, wide_at(key), len, &held);
+    uint32_t slot = find(&s, key, len, &held);
     if (!held && (retrieve | delete | exist | (store && options & 1))) return 0x87;
     if (held && store && options & 2) return 0x89;
     uint32_t old = held ? len + load32(s.records + 32 * slot + 24) : 0;
     if (store && ((!held && s.h.count >= s.maxkeys) || (uint64_t)s.used - old + len + amount > s.h.size)) return 0x81;
     if (store) {
         if (held) erase(&s, slot);
-        insert(&s, slot, key, len, data, amount);
+        insert(&s, slot, e, len, data, amount);
         save32(directory + 12, s.h.count);
     } else if (retrieve) {
         uint32_t v = load32(s.records + 32 * slot + 24);

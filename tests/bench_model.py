@@ -12,10 +12,10 @@ STORE, RETRIEVE, LIST, DELETE, EXIST = 0x01, 0x02, 0x06, 0x10, 0x14
 KEY_MAX, VALUE_MAX, MAX_KEYS, SIZE, ID = 16, 64, 1024, 4096, 1
 
 
-def entry(op, key, amount=0, options=0, cid=0, nsid=1, fused=0, length=None, noise=False):
-    """noise fills all that must not count: what no field has, and the rest of a short key's sixteen bytes."""
+def entry(op, key, amount=0, options=0, cid=0, nsid=1, fused=0, length=None, noise=False, stale=b""):
+    """noise fills all that must not count, which is what no field has; stale is what stands behind a key, else zeros."""
     e = bytearray(b"\xa5" * 64 if noise else bytes(64))
-    padded = key + (b"\x5a" if noise else b"\0") * (16 - len(key))
+    padded = (key + stale).ljust(16, b"\0")
     e[0] = op
     e[1] = (0xFC if noise else 0) | fused
     e[2:4] = struct.pack("<H", cid)
@@ -43,8 +43,9 @@ class Module:
     def __init__(self):
         self.pairs = {}
 
-    def refusal(self, op, fused, nsid, key, length, amount, options, room):
-        """Steps b to j; a cannot be."""
+    def refusal(self, op, fused, nsid, field, length, amount, options, room):
+        """Steps b to j; a cannot be. The field is all sixteen bytes."""
+        key = field[:length]
         used = sum(len(k) + len(v) for k, v in self.pairs.items() if k != key)  # a pair that is replaced is out by then
         held = key in self.pairs
         if op not in (STORE, RETRIEVE, LIST, DELETE, EXIST):
@@ -54,6 +55,8 @@ class Module:
         if nsid != ID:
             return 0x0B
         if length > 16:
+            return 0x02
+        if any(field[length:]):
             return 0x02
         if length > KEY_MAX or (length == 0 and op != LIST):
             return 0x86
@@ -75,8 +78,9 @@ class Module:
         """Status, Dword 0, and the bytes handed over or None."""
         op, fused, options, length = e[0], e[1] & 3, e[45], e[44]
         nsid, amount = struct.unpack("<I", e[4:8])[0], struct.unpack("<I", e[40:44])[0]
-        key = (e[8:16] + e[56:64])[:length]
-        status = self.refusal(op, fused, nsid, key, length, amount, options, len(buffer))
+        field = e[8:16] + e[56:64]
+        key = field[:length]
+        status = self.refusal(op, fused, nsid, field, length, amount, options, len(buffer))
         if status:
             return status, 0, None
         if op == STORE:
@@ -183,6 +187,17 @@ def cases():
     yield entry(EXIST, ab, 0xFFFFFFFF, noise=True)
     yield entry(LIST, b"A", 4096, noise=True)
     yield entry(DELETE, ab, 0xFFFFFFFF, noise=True)
+    # bytes behind the key: the next one, the last one, all; with no key too, and in each of the five commands
+    for stale in (b"\1", b"\0" * 14 + b"\x80", b"\xff" * 15):
+        yield entry(EXIST, b, stale=stale)
+        yield entry(LIST, b"", 4096, stale=stale)
+    yield store(b, b"never", stale=b"\0never")
+    yield entry(RETRIEVE, b, 64, stale=b"\0\0\1")
+    yield entry(LIST, b, 4096, stale=b"\0\0\0\0\0\0\0\1")
+    yield entry(DELETE, b, stale=b"\0\0\0\0\0\0\1")
+    yield entry(EXIST, long[:15], stale=b"\x10")
+    yield entry(EXIST, b"", stale=b"\1")
+    yield entry(RETRIEVE, b, 64)
     # steps b, c, d; the order of steps where two refuse
     for op in (0x00, 0x03, 0x05, 0x11, 0xFF):
         yield entry(op, a, 0xFFFFFFFF, fused=1)

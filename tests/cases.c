@@ -1,4 +1,4 @@
-/* The module from C: the sample of document 01, its cases P1 to P12, a store filled to its last byte and its last slot, and
+/* The module from C: the sample of document 01, its cases P1 to P12, bytes behind the key, a store filled to its last byte and its last slot, and
  * slices without a byte. After each call every byte past the needed part of both slices is compared. */
 #include "kv.h"
 
@@ -36,12 +36,10 @@ static void format(uint32_t index, uint32_t size) {
     untouched();
 }
 
-/* one command with `len` key bytes, `amount` in Dword 10 and a data buffer of `room` bytes at `buffer`; its status */
-static int command_on(uint8_t *buffer, int opcode, int options, const void *key, int len, uint32_t amount, size_t room) {
-    int n = len < 16 ? len : 16;
-    uint8_t k[16];
-    memset(k, 0xee, sizeof k);
-    memcpy(k, key, n);
+/* an entry with `len` key bytes and `amount` in Dword 10; what is not looked at is not zero */
+static void prepare(int opcode, int options, const void *key, int len, uint32_t amount) {
+    uint8_t k[16] = {0};
+    memcpy(k, key, len < 16 ? len : 16);
     memset(entry, 0xee, sizeof entry);
     entry[0] = opcode;
     entry[1] = 0xfc;
@@ -54,6 +52,10 @@ static int command_on(uint8_t *buffer, int opcode, int options, const void *key,
     entry[44] = len;
     entry[45] = options;
     memcpy(entry + 56, k + 8, 8);
+}
+
+/* that command with a data buffer of `room` bytes at `buffer`; its status */
+static int give(uint8_t *buffer, size_t room) {
     uint32_t number = kv_command(entry, 64, completion, 16, buffer, room, directory, sizeof directory, values, sizeof values, 7, 1,
                                  1);
     expect("number", number == 0);
@@ -62,6 +64,11 @@ static int command_on(uint8_t *buffer, int opcode, int options, const void *key,
     expect("phase and type", (word & 1) == 1 && word >> 9 == 0);
     expect("fields", memcmp(completion + 4, "\0\0\0\0\7\0\1\0\x34\x12", 10) == 0);
     return word >> 1 & 255;
+}
+
+static int command_on(uint8_t *buffer, int opcode, int options, const void *key, int len, uint32_t amount, size_t room) {
+    prepare(opcode, options, key, len, amount);
+    return give(buffer, room);
 }
 
 static int command(int opcode, int options, const void *key, int len, uint32_t amount, size_t room) {
@@ -111,6 +118,25 @@ static void cases(void) {
     expect("store 5", store(0, "A", 1, 5) == 0);
     memset(data, 0xff, sizeof data);
     expect("P12", command(KV_RETRIEVE, 0, "A", 1, 3, 3) == 0 && dword0() == 5 && memcmp(data, "\1\2\3\xff", 4) == 0);
+}
+
+/* Each of the five commands with each byte behind its key other than zero, alone, in a store of the given format that holds "A": 02h,
+ * whatever the key length, and the store is as it was. With zeros there it is answered as `want` says. */
+static void strict(uint32_t index, const char *key, int len, const int want[5]) {
+    static const int opcodes[5] = {KV_STORE, KV_RETRIEVE, KV_LIST, KV_DELETE, KV_EXIST};
+    static uint8_t held[sizeof directory];
+    for (int i = 0; i < 5; i++) {
+        format(index, 4096);
+        expect("strict: A stored", store(0, "A", 1, 3) == 0);
+        memcpy(held, directory, sizeof held);
+        for (int at = len; at < 16; at++) {
+            prepare(opcodes[i], 0, key, len, 8);
+            entry[at < 8 ? 8 + at : 48 + at] = 0x80;
+            expect("strict: a byte behind the key", give(data, 8) == KV_INVALID_FIELD);
+        }
+        expect("strict: the store as it was", memcmp(held, directory, sizeof held) == 0);
+        expect("strict: zeros behind the key", command(opcodes[i], 0, key, len, 8, 8) == want[i]);
+    }
 }
 
 /* keys of four bytes and values of v bytes until the store is full, then all of it taken out again */
@@ -184,6 +210,10 @@ static void empty(void) {
 int main(void) {
     sample();
     cases();
+    strict(3, "A", 1, (const int[5]){0x00, 0x00, 0x00, 0x00, 0x00});
+    strict(3, "0123456789abcde", 15, (const int[5]){0x00, 0x87, 0x00, 0x87, 0x87});
+    strict(3, "", 0, (const int[5]){0x86, 0x86, 0x00, 0x86, 0x86});
+    strict(0, "01234", 5, (const int[5]){0x86, 0x86, 0x86, 0x86, 0x86}); /* above the format's key length */
     fill(0, 65536, 60, 1024); /* the last slot and the last byte */
     fill(3, 65536, 0, 1024);  /* the last slot */
     fill(15, 1608, 100, 15);  /* room for a sixteenth key, but not for its value */

@@ -47,6 +47,7 @@ int main(int argc, char **argv) {
     state = seed;
     for (uint64_t i = 0; calls < wanted; i++) history(i);
     int missing = report_calls();
+    missing += report_commands();
     missing += report_again();
     missing += report_walks();
     if (missing > 0) printf("FAILED: %d of these did not occur\n", missing);

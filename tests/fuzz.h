@@ -53,6 +53,7 @@ extern uint32_t spite, storing, full; /* faults in 1000, Stores in 100, and whet
 extern int walking, quiet;            /* within a walk the slices are lent whole; in a quiet one no call changes the store */
 
 uint32_t any_command(void); /* returns what `command` does */
+int report_commands(void);  /* as `report_calls` */
 void bad_format(void);
 
 /* ---- fuzz_damage.c */

@@ -21,7 +21,7 @@ static uint32_t key_of(uint32_t i, uint8_t key[16]) {
 }
 
 static uint32_t some_key(uint8_t key[16]) {
-    rubbish(key, key + 8, 8); /* what stands behind the key must not count */
+    rubbish(key, key + 8, 8);
     if (held->count > 0 && one_in(3)) {
         const struct model_pair *p = held->pairs + below(held->count);
         memcpy(key, p->key, p->key_len);
@@ -49,8 +49,49 @@ static uint32_t some_amount(uint8_t opcode, uint32_t len) {
     return one_in(6) ? below(value_max + 1) : one_in(2) ? below(4) : below((value_max < left ? value_max : left) / 4 + 2);
 }
 
+static const uint8_t opcodes[5] = {KV_STORE, KV_RETRIEVE, KV_LIST, KV_DELETE, KV_EXIST};
+
+/* by command: refused for a byte behind the key and nothing before it, and carried out once that was zero; the first also where a
+ * List had no key, and where with zeros the key was too long for the format */
+static uint64_t stale[5], cleared[5], stale_empty, stale_long;
+
+/* the place in the entry of byte i of the key */
+static uint8_t *key_byte(uint32_t i) { return real.entry + (i < 8 ? 8 + i : 48 + i); }
+
+static void soil(uint32_t len) {
+    uint32_t i = one_in(3) ? 15 : len + below(16 - len);
+    do *key_byte(i++) = 1 + below(255);
+    while (i < 16 && one_in(2));
+}
+
+/* an entry that was answered 02h given again with zeros behind the key: what it is answered now */
+static uint32_t clean(uint32_t len, size_t entry_len, size_t completion_len, size_t room, size_t lend_d, size_t lend_v) {
+    for (uint32_t i = len; i < 16; i++) *key_byte(i) = 0;
+    memcpy(model.entry, real.entry, sizeof real.entry);
+    uint32_t status = command(entry_len, completion_len, room, lend_d, lend_v);
+    for (int i = 0; i < 5 && status != 0x02; i++) {
+        if (real.entry[0] != opcodes[i]) continue;
+        stale[i]++;
+        cleared[i] += status == 0;
+        stale_empty += len == 0 && opcodes[i] == KV_LIST;
+        stale_long += status == 0x86 && len > 0;
+    }
+    return status;
+}
+
+int report_commands(void) {
+    static const char *const names[5] = {"Store", "Retrieve", "List", "Delete", "Exist"};
+    int missing = (stale_empty == 0) + (stale_long == 0);
+    printf("bytes behind the key, refused and then with zeros carried out:");
+    for (int i = 0; i < 5; i++) {
+        printf(" %s %llu %llu", names[i], (unsigned long long)stale[i], (unsigned long long)cleared[i]);
+        missing += (stale[i] == 0) + (cleared[i] == 0);
+    }
+    printf(", List with no key %llu, key too long %llu\n", (unsigned long long)stale_empty, (unsigned long long)stale_long);
+    return missing;
+}
+
 uint32_t any_command(void) {
-    static const uint8_t opcodes[5] = {KV_STORE, KV_RETRIEVE, KV_LIST, KV_DELETE, KV_EXIST};
     uint8_t key[300], opcode = below(100) < storing ? KV_STORE : opcodes[below(5)], options = next();
     uint32_t len = some_key(key), nsid = held->id, lend_d = directory_len, lend_v = values_len;
     uint32_t needed = 64 + 32 * model_max_keys(held->index), entry_len = 64, completion_len = 16;
@@ -58,6 +99,7 @@ uint32_t any_command(void) {
     if (opcode == KV_STORE && !one_in(4)) options &= 0xfc;
     if (fault() || (opcode == KV_LIST && one_in(2))) len = one_in(4) ? 255 : below(21);
     if (opcode == KV_LIST && len > 16 && !fault()) len = 0;
+    if (len < 16) memset(key + len, 0, 16 - len);
     int refused = quiet && (opcode == KV_STORE || opcode == KV_DELETE), fused = refused && one_in(2);
     if (refused && !fused && opcode == KV_STORE) options |= 3; /* both bits: refused whether the key is held or not */
     if (refused && !fused && opcode == KV_DELETE) nsid ^= 1u << below(32);
@@ -84,9 +126,12 @@ uint32_t any_command(void) {
         memcpy(real.entry + 56, key + 8, 8);
     }
     if (fused || fault()) real.entry[1] |= 1 + below(3);
+    int soiled = len < 16 && one_in(10);
+    if (soiled) soil(len);
     memcpy(model.entry, real.entry, sizeof real.entry);
 
     uint32_t status = command(entry_len, completion_len, room, lend_d, lend_v);
+    if (soiled && status == 0x02) status = clean(len, entry_len, completion_len, room, lend_d, lend_v);
     if (status < 0x100 && one_in(4)) read_completion(real.completion, 16);
     if (status == 0 && opcode == KV_LIST && one_in(2)) pages(amount);
     if (refused && status == 0) differ("quiet: a change to be refused", status, 0x02);

@@ -205,17 +205,18 @@ static void list(const struct model_store *s, uint32_t at, uint8_t *data, uint32
 static uint32_t status_of(struct model_store *s, const uint8_t *entry, uint8_t *data, size_t data_len, uint32_t *dword0) {
     uint8_t opcode = entry[0], options = entry[45], key[16];
     uint32_t len = entry[44], amount = get32(entry + 40);
+    memcpy(key, entry + 8, 8);
+    memcpy(key + 8, entry + 56, 8);
     if (s == 0) return 0x06;
     if (!one_of_five(opcode)) return 0x01;
     if (entry[1] % 4 != 0) return 0x02;
     if (get32(entry + 4) != s->id) return 0x0b;
     if (len > 16) return 0x02;
+    if (!zeros(key + len, 16 - len)) return 0x02;
     if (len > model_key_max(s->index) || (len == 0 && opcode != LIST)) return 0x86;
     if (opcode == STORE && amount > model_value_max(s->index)) return 0x85;
     if (opcode == LIST && amount < 4) return 0x02;
     if ((opcode == STORE || opcode == RETRIEVE || opcode == LIST) && data_len < amount) return 0x04;
-    memcpy(key, entry + 8, 8);
-    memcpy(key + 8, entry + 56, 8);
     uint32_t at = from(s, key, len);
     int present = at < s->count && !below(key, len, s->pairs[at].key, s->pairs[at].key_len);
     if (!present && (opcode == RETRIEVE || opcode == DELETE || opcode == EXIST)) return 0x87;

@@ -5,7 +5,9 @@ use mathlib.Core.Bool.{Bool, true, false, not, _&&_, _||_, and-true}
 use Prim.Native.Nat.{ℕ, _+_, _-_, _≤_, _<_}
 use native.Mathlib.Omega.{arith}
 use lib.Dec.{leb, ltb, eqb}
+use lib.ListN.{drop}
 use borrow.Author.Tests.{ltb-false, eqb-true, eqb-false, not-false}
+use Rattle.octets.specs.Octets.{allZero}
 use Rattle.octets.specs.Tests.{firstOf}
 use Rattle.octets.proofs.TestLaws.{neither, None, none-holds, none-parts, first-below}
 use Rattle.wire.specs.declared.entries.Command.{Command}
@@ -26,6 +28,7 @@ pub record PassedToH (v : View) (c : Command) : Type 0 where
   pub same : c .nsid ≡ v .id
   -- e
   pub sixteen : c .len ≤ 16
+  pub clear : allZero (drop (c .len) (c .key)) ≡ true
   -- f
   pub short : c .len ≤ v .format .keymax
   pub some : isList (c .opcode) ≡ false → 1 ≤ c .len
@@ -54,7 +57,8 @@ passed-to-h v c a =
     let cc = b .1 in
     let d = cc .1 in
     let e = d .1 in
-    let f = e .1 in
+    let e2 = e .1 in
+    let f = e2 .1 in
     let g = f .1 in
     let g2 = g .1 in
     let h = g2 .1 in
@@ -65,6 +69,7 @@ passed-to-h v c a =
       fused = eqb-true (c .fused) 0 (not-false _ (cc .0));
       same = eqb-true (c .nsid) (v .id) (not-false _ (d .0));
       sixteen = ltb-false 16 (c .len) (e .0);
+      clear = not-false (allZero (drop (c .len) (c .key))) (e2 .0);
       short = ltb-false (v .format .keymax) (c .len) (key .0);
       some = λ o. let z : eqb (c .len) 0 ≡ false = rw (o, and-true) at (key .1) in omega (arith, eqb-false);
       value = λ o. ltb-false (v .format .valuemax) (c .amount) (right-false _ _ (g .0) o);

@@ -8,7 +8,7 @@ use lib.Dec.{leb, ltb, eqb}
 use Rattle.octets.specs.Keys.{Key}
 use Rattle.octets.specs.Tests.{Row, row, firstOf}
 use Rattle.wire.specs.declared.entries.Command.{Command}
-use Rattle.wire.specs.Entry.{keyOf, isStore, isRetrieve, isList, isDelete, isExist, known, ifPresent, ifAbsent}
+use Rattle.wire.specs.Entry.{keyOf, stale, isStore, isRetrieve, isList, isDelete, isExist, known, ifPresent, ifAbsent}
 use Rattle.commands.specs.declared.steps.View.{View}
 use Rattle.commands.specs.declared.steps.Stock.{Stock}
 use Rattle.commands.specs.declared.steps.Row.{Row as CodeRow}
@@ -35,6 +35,8 @@ stepsToH v c =
     ∷ row (not (eqb (c .nsid) (v .id))) 0x0b
     -- e
     ∷ row (ltb 16 (c .len)) 0x02
+    -- e, of what stands behind the key
+    ∷ row (stale c) 0x02
     -- f
     ∷ row (ltb (f .keymax) (c .len) || eqb (c .len) 0 && not (isList op)) 0x86
     -- g, of a Store

@@ -1,5 +1,6 @@
 // Steps a to j: the table of `specs/Steps.antt`. Those to h are an array of rows that computes to it; the three that are left are asked one
 // after the other.
+use octets::keys::ends_clear;
 use store::formats::Format;
 use wire::entries::Command;
 use wire::entries::DELETE;
@@ -35,7 +36,7 @@ pub struct Stock {
 pub struct Row(pub bool, pub u8);
 
 // The first status whose test holds, else 0.
-fn first_of(rows: [Row; 9]) -> u8
+fn first_of(rows: [Row; 10]) -> u8
     ensures { λ r. ⌜ r ≡ firstOf (map rowOf rows) ⌝ }
 {
     let mut i = 0;
@@ -60,12 +61,15 @@ pub fn decide_early(c: Command, v: View) -> u8
     let delete = c.opcode == DELETE;
     let exist = c.opcode == EXIST;
     let short = v.room < c.amount as usize;
+    let key = c.key;
+    let clear = ends_clear(key, c.len);
     first_of([
         Row(!v.legal, 0x06),
         Row(!(store | retrieve | list | delete | exist), 0x01),
         Row(c.fused != 0, 0x02),
         Row(c.nsid != v.id, 0x0b),
         Row(16 < c.len, 0x02),
+        Row(!clear, 0x02),
         Row((f.keymax < c.len) | (c.len == 0) & !list, 0x86),
         Row(store & (f.valuemax < c.amount), 0x85),
         Row(list & (c.amount < 4), 0x02),

@@ -3,16 +3,17 @@
 use mathlib.Core.Path.{_≡_}
 use mathlib.Core.Bool.{Bool, true, false, cond, _||_}
 use mathlib.Core.List.{List}
-use Prim.Native.Nat.{ℕ, _^_, _≤_, _<_}
+use Prim.Native.Nat.{ℕ, _-_, _^_, _≤_, _<_}
 use native.Mathlib.Omega.{arith}
-use lib.ListN.{length}
-use lib.Seq.{take-append-seam}
+use lib.ListN.{length, drop}
+use lib.Seq.{take-append-seam, drop-append-seam}
 use borrow.Author.Tests.{eq-eqb, le-ltb, ltb-false}
+use Rattle.octets.specs.Octets.{filled, allZero}
 use Rattle.octets.specs.Keys.{Key}
 use Rattle.octets.proofs.TestLaws.{none-holds}
-use Rattle.octets.proofs.ZeroLaws.{length-filled}
-use Rattle.wire.specs.Entry.{readCommand, writeCommand, known, isDelete, isExist, keyOf}
-use Rattle.wire.proofs.EntryLaws.{command-back}
+use Rattle.octets.proofs.ZeroLaws.{length-filled, zeros-all}
+use Rattle.wire.specs.Entry.{readCommand, writeCommand, known, isDelete, isExist, keyOf, stale}
+use Rattle.wire.proofs.EntryLaws.{command-back, stale-back}
 use Rattle.host.specs.Build.{command, buildSteps, built, build}
 
 zero-below : (x : Bool) (n b : ℕ) → n < b → cond x 0 n < b
@@ -29,6 +30,15 @@ module _ (o cid nsid : ℕ) (k : Key) (dword10 options : ℕ) (e : List ℕ) whe
   pub build-key : keyOf (command o cid nsid k dword10 options) ≡ k
   unfolding command
   build-key = take-append-seam k _
+
+  -- behind the key stands nothing but zeros
+  pub build-clear : build e o cid nsid k dword10 options .number ≡ 0 → stale (readCommand (build e o cid nsid k dword10 options .entry)) ≡ false
+  unfolding build command
+  build-clear h =
+      let r = none-holds (buildSteps e o k) tt h in
+      let l = length-filled 16 k (ltb-false 16 (length k) (r .1 .0)) in
+      let z : allZero (drop (length k) (filled 16 k)) ≡ true = rw drop-append-seam (zeros-all (16 - length k)) in
+      rw (h, stale-back (command o cid nsid k dword10 options) l, z)
 
   pub build-read : build e o cid nsid k dword10 options .number ≡ 0 → cid < 256 ^ 2 → nsid < 256 ^ 4 → dword10 < 256 ^ 4
       → readCommand (build e o cid nsid k dword10 options .entry) ≡ command o cid nsid k dword10 options

@@ -98,13 +98,13 @@ module _ (n : ℕ) (xs : List ℕ) (b : Bytes xs) (l : length xs ≡ 16) where
       let d = ap (drop (8 + (n - 8))) (halves xs l) ∙ drop-past (part 0 8 xs) q 8 (n - 8) front in
       eight (n - 8) q (bytes-part 8 8 xs b (omega arith)) (length-part 8 8 xs (omega arith)) (omega arith) ∙ rw (← d, m)
 
-  pub clear-wide : n ≤ 16 → clearWide (wideOf xs n) ≡ allZero (drop n xs)
+  pub clear-wide : clearWide (wideOf xs n) ≡ allZero (drop n xs)
   unfolding clearWide wideOf
-  clear-wide h =
+  clear-wide =
       elim (known (ltb n 8)) [
         | holds p ↦ rw p (low (ltb-true n 8 p))
         | fails p ↦ elim (known (ltb n 16)) [
-          | holds q ↦ rw (p, q) (high (ltb-false n 8 p) h)
+          | holds q ↦ rw (p, q) (high (ltb-false n 8 p) (omega (arith, ltb-true n 16 q)))
           | fails q ↦ rw (p, q, drop-of-length-le xs {i = n} (omega (arith, ltb-false n 16 q)))
         ]
       ]

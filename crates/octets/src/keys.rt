@@ -3,8 +3,8 @@ use crate::runs::copy;
 use crate::wide::read_big;
 ghost use mathlib.Core.Path.{_≡_};
 ghost use Prim.Native.Nat.{_+_, _≤_};
-ghost use lib.ListN.{length};
-ghost use Rattle.octets.specs.Octets.{part, filled};
+ghost use lib.ListN.{length, drop};
+ghost use Rattle.octets.specs.Octets.{part, filled, allZero};
 ghost use Rattle.octets.specs.Keys.{order, isLess, isEqual, wideOf, orderWide, clearWide};
 
 pub enum Order {
@@ -99,4 +99,11 @@ pub fn is_clear(w: Wide) -> bool
         return w.low << (8 * (w.len - 8)) == 0;
     }
     true
+}
+
+// Whether zeros stand behind the first `len` of the sixteen bytes; a length above 16 leaves none of them behind it.
+pub fn ends_clear(key: [u8; 16], len: u8) -> bool
+    ensures { λ r. ⌜ r ≡ allZero (drop len key) ⌝ }
+{
+    is_clear(widen(&key, 0, len as u64))
 }

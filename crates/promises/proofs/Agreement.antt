@@ -1,10 +1,10 @@
 -- Host and module agree: what one side wrote the other reads as what was written. Assumes nothing.
 use mathlib.Core.Path.{_≡_, refl, sym, ap, _∙_}
-use mathlib.Core.Bool.{true, _||_}
+use mathlib.Core.Bool.{true, false, _||_}
 use mathlib.Core.List.{List, []}
 use Prim.Native.Nat.{ℕ, _^_, _≤_, _<_}
 use native.Mathlib.Omega.{arith}
-use lib.ListN.{length, getD}
+use lib.ListN.{length, replicate, getD}
 use lib.Dec.{eqb}
 use borrow.Author.Tests.{eq-eqb, eqb-true}
 use Rattle.octets.specs.Octets.{put}
@@ -12,7 +12,7 @@ use Rattle.octets.specs.Keys.{Key}
 use Rattle.octets.proofs.TestLaws.{known, holds, fails}
 use Rattle.octets.proofs.ZeroLaws.{length-filled}
 use Rattle.wire.specs.declared.entries.Command.{Command}
-use Rattle.wire.specs.Entry.{readCommand, keyOf, isStore, isRetrieve, isList}
+use Rattle.wire.specs.Entry.{readCommand, keyOf, stale, isStore, isRetrieve, isList}
 use Rattle.wire.specs.Page.{page, Reading, readPage, shown, keys as reading}
 use Rattle.wire.proofs.EntryLaws.{length-command}
 use Rattle.store.specs.Maps.{keys}
@@ -29,7 +29,7 @@ use Rattle.commands.proofs.CommandLaws.{command-0}
 use Rattle.host.specs.Build as Build
 use Rattle.host.specs.Reply.{numbered, reply}
 use Rattle.host.specs.PageKey.{given, pageKey}
-use Rattle.host.proofs.BuildLaws.{build-0, build-key, build-read}
+use Rattle.host.proofs.BuildLaws.{build-0, build-key, build-clear, build-read}
 use Rattle.host.proofs.ReplyLaws.{reply-back}
 use Rattle.promises.specs.Agreement.{Ask, builds, Askable, Asked, Postable, posted}
 use Rattle.promises.proofs.ShownLaws.{value-small, shown-read}
@@ -72,6 +72,18 @@ entry-agrees e a h w =
             no-dword10 = λ o. rw o;
           }),
     )
+
+-- and step e lets it pass: whatever the builder was asked for, zeros stand behind the key
+pub never-stale : (e : List ℕ) (a : Ask) → builds e a .number ≡ 0 → stale (readCommand (builds e a .entry)) ≡ false
+never-stale e a n = build-clear (a .opcode) (a .cid) (a .nsid) (a .key) (a .dword10) (a .options) e n
+
+-- an instance: a List without a key, built over bytes that are not zero
+abbrev keyless : Ask
+keyless = record { opcode = 0x06; cid = 1; nsid = 1; key = []; dword10 = 64; options = 0 }
+
+cleared : stale (readCommand (builds (replicate 64 0xff) keyless .entry)) ≡ false
+unfolding Build.build
+cleared = never-stale (replicate 64 0xff) keyless refl
 
 -- ---- a completion that was posted
 

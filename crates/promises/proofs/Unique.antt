@@ -86,6 +86,9 @@ pad-one κs a x y u v p q = value p q
 pub is-clear-one : Determines keys.is_clear.Kinds.ps keys.is_clear.Kinds.r keys.is_clear.Reads.Learnt
 is-clear-one κs a x y u v p q = value p q
 
+pub ends-clear-one : Determines keys.ends_clear.Kinds.ps keys.ends_clear.Kinds.r keys.ends_clear.Reads.Learnt
+ends-clear-one κs a x y u v p q = value p q
+
 -- ---- octets::runs
 
 pub copy-one : Determines runs.copy.Kinds.ps runs.copy.Kinds.r runs.copy.Reads.Learnt

@@ -4,10 +4,10 @@ use mathlib.Core.Bool.{Bool, true, false, _||_}
 use mathlib.Core.List.{List, [], _∷_, _++_}
 use lib.ListN.{replicate}
 use Prim.Native.Nat.{ℕ, _%_, _/_}
-use Rattle.octets.specs.Octets.{part, number}
+use Rattle.octets.specs.Octets.{part, number, zeros}
 use Rattle.octets.proofs.TestLaws.{neither, contrary}
 use Rattle.wire.specs.declared.entries.Command.{Command}
-use Rattle.wire.specs.Entry.{readCommand, writeCommand, keyOf, isStore, isRetrieve, isList}
+use Rattle.wire.specs.Entry.{readCommand, writeCommand, isStore, isRetrieve, isList}
 use Rattle.store.specs.Namespace.{Namespace}
 use Rattle.memory.specs.Memory.{namespaceOf, legal}
 use Rattle.commands.specs.Steps.{steps, statusOf}
@@ -24,7 +24,7 @@ record Same (c d : Command) : Type 0 where
   cid : c .cid ≡ d .cid
   nsid : c .nsid ≡ d .nsid
   len : c .len ≡ d .len
-  key : keyOf c ≡ keyOf d
+  key : c .key ≡ d .key
   options : isStore (c .opcode) ≡ true → c .options % 4 ≡ d .options % 4
   amount : readsAmount (c .opcode) ≡ true → c .amount ≡ d .amount
 
@@ -62,7 +62,7 @@ read-agree e f a =
       cid = ap number (a .cid);
       nsid = ap number (a .nsid);
       len = a .len;
-      key = a .key ∙ rw (a .len);
+      key = a .key;
       options = a .options;
       amount = λ o. ap number (a .amount o);
     }
@@ -73,13 +73,13 @@ pub unread : (e f : List ℕ) → Agree e f → (p : Post) (l : Lent) → comman
 unfolding command
 unread e f a p l = rw (a .long, same-served (readCommand e) (readCommand f) (read-agree e f a) p l)
 
--- ---- an instance: an Exist of A with other bits in byte 1, other reserved bytes, Dword 10, options and key bytes past the length
+-- ---- an instance: an Exist of A with other bits in byte 1, other reserved bytes, Dword 10 and options
 
 abbrev plain : List ℕ
 plain = request 0x14 A 0 [] .entry
 
 abbrev noisy : List ℕ
-noisy = 0x14 ∷ 0xfc ∷ 0 ∷ 0 ∷ 1 ∷ 0 ∷ 0 ∷ 0 ∷ 0x41 ∷ replicate 35 9 ++ 1 ∷ replicate 19 9
+noisy = 0x14 ∷ 0xfc ∷ 0 ∷ 0 ∷ 1 ∷ 0 ∷ 0 ∷ 0 ∷ 0x41 ∷ zeros 7 ++ replicate 28 9 ++ 1 ∷ replicate 11 9 ++ zeros 8
 
 quiet : Agree plain noisy
 unfolding writeCommand part

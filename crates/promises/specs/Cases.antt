@@ -1,10 +1,10 @@
--- The bench cases P1 to P12 of document 01, P10 as changed by request [1]: one table, and one statement about the definitions. Assumes nothing.
+-- The bench cases P1 to P12 of document 01, P10 as changed by request [1], those of [1] and [13]: one table, and one statement about the definitions. Assumes nothing.
 use mathlib.Core.Path.{_≡_, refl}
 use mathlib.Core.Bool.{true}
-use mathlib.Core.List.{List, [], _∷_, map}
+use mathlib.Core.List.{List, [], _∷_, _++_, map}
 use Prim.Native.Nat.{ℕ, zero, suc}
 use lib.ListN.{length, replicate}
-use Rattle.octets.specs.Octets.{part, put, number, filled}
+use Rattle.octets.specs.Octets.{part, put, number, zeros, filled}
 use Rattle.octets.specs.Keys.{Key}
 use Rattle.wire.specs.Entry.{readCommand, writeCommand}
 use Rattle.wire.specs.Page.{pageEntry, page}
@@ -71,7 +71,7 @@ list k b = call 0x06 0 k (length k) (length b) b
 
 -- Exist with a key length of l
 abbrev pub exist : ℕ → Call
-exist l = call 0x14 0 (replicate 16 0x41) l 0 []
+exist l = call 0x14 0 (replicate l 0x41) l 0 []
 
 abbrev pub A : Key
 A = 0x41 ∷ []
@@ -144,6 +144,18 @@ table =
     ∷ gives (stores 16) (store 0 (16 ∷ []) []) 0x81 0 []
     ∷ []
     )
+    -- [13], a byte behind the key in each of the five commands, and the last one behind none
+    ∷ case 3 4096 (
+    gives three (call 0x01 0 AB 1 1 (junk 1)) 0x02 0 (junk 1)
+    ∷ gives three (call 0x02 0 AB 1 1 (junk 1)) 0x02 0 (junk 1)
+    ∷ gives three (call 0x06 0 AB 1 16 (junk 16)) 0x02 0 (junk 16)
+    ∷ gives three (call 0x10 0 AB 1 0 []) 0x02 0 []
+    ∷ gives three (call 0x14 0 AB 1 0 []) 0x02 0 []
+    ∷ gives three (call 0x06 0 (zeros 15 ++ A) 0 16 (junk 16)) 0x02 0 (junk 16)
+    ∷ []
+    )
+    -- [13], with a key that is too long for the format
+    ∷ case 0 4096 (gives [] (call 0x14 0 (replicate 6 0x41) 5 0 []) 0x02 0 [] ∷ [])
     ∷ []
 
 pub cases : map got table ≡ map wanted table

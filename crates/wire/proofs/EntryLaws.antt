@@ -1,5 +1,5 @@
 -- The puts that make a key of two halves, and an entry; a command that was written is read back. Assumes nothing.
-use mathlib.Core.Path.{_≡_, sym, subst, _∙_}
+use mathlib.Core.Path.{_≡_, refl, sym, subst, _∙_}
 use mathlib.Core.List.{List, [], _∷_, _++_}
 use Prim.Native.Nat.{ℕ, _%_, _^_, _≤_, _<_}
 use native.Mathlib.Omega.{arith}
@@ -8,7 +8,7 @@ use Rattle.octets.specs.Octets.{part, put, bytes, zeros}
 use Rattle.octets.proofs.PartLaws.{each, part-each, length-part, part-whole, puts-whole}
 use Rattle.octets.proofs.NumberLaws.{number-bytes}
 use Rattle.wire.specs.declared.entries.Command.{Command}
-use Rattle.wire.specs.Entry.{readCommand, frontOf, dwordsOf, writeCommand}
+use Rattle.wire.specs.Entry.{readCommand, frontOf, dwordsOf, writeCommand, stale}
 
 pub key-puts : (e : List ℕ) → length e ≡ 64 → put 8 (part 56 8 e) (put 0 (part 8 8 e) (zeros 16)) ≡ part 8 8 e ++ part 56 8 e
 key-puts e h =
@@ -38,6 +38,10 @@ pub record Sound (c : Command) : Type 0 where
   pub amount-in : c .amount < 256 ^ 4
   pub key-in : length (c .key) ≡ 16
 
+-- c with another key
+abbrev at : Command → List ℕ → Command
+at c k = record { opcode = c .opcode; fused = c .fused; cid = c .cid; nsid = c .nsid; key = k; len = c .len; options = c .options; amount = c .amount }
+
 sixteen : (k : List ℕ) → length k ≡ 16 → each 16 0 k ≡ k
 sixteen k h = sym (part-each 16 0 k (omega arith)) ∙ part-whole 16 k h
 
@@ -45,7 +49,10 @@ pub command-back : (c : Command) → Sound c → readCommand (writeCommand c) �
 unfolding readCommand writeCommand part
 command-back c s =
     let f : c .fused % 4 ≡ c .fused = omega arith in
-    let at : List ℕ → Command =
-    λ k. record { opcode = c .opcode; fused = c .fused; cid = c .cid; nsid = c .nsid; key = k; len = c .len; options = c .options; amount = c .amount } in
-    subst (λ (k : List ℕ). readCommand (writeCommand (at k)) ≡ at k) (sixteen (c .key) (s .key-in))
+    subst (λ (k : List ℕ). readCommand (writeCommand (at c k)) ≡ at c k) (sixteen (c .key) (s .key-in))
     (rw (f, number-bytes 2 (c .cid) (s .cid-in), number-bytes 4 (c .nsid) (s .nsid-in), number-bytes 4 (c .amount) (s .amount-in)))
+
+-- what stands behind the key, whatever the numbers beside it
+pub stale-back : (c : Command) → length (c .key) ≡ 16 → stale (readCommand (writeCommand c)) ≡ stale c
+unfolding readCommand writeCommand part
+stale-back c h = subst (λ (k : List ℕ). stale (readCommand (writeCommand (at c k))) ≡ stale (at c k)) (sixteen (c .key) h) refl

@@ -3,8 +3,8 @@ use mathlib.Core.Bool.{Bool, not, _&&_, _||_}
 use mathlib.Core.List.{List, [], _∷_, _++_}
 use Prim.Native.Nat.{ℕ, _/_, _%_}
 use lib.Dec.{eqb}
-use lib.ListN.{length, take, getD}
-use Rattle.octets.specs.Octets.{part, number, bytes, zeros}
+use lib.ListN.{length, take, drop, getD}
+use Rattle.octets.specs.Octets.{part, number, bytes, zeros, allZero}
 use Rattle.octets.specs.Keys.{Key}
 use Rattle.octets.specs.Tests.{Row, row}
 use Rattle.wire.specs.declared.entries.Command.{Command}
@@ -37,6 +37,10 @@ writeCommand c = frontOf c ++ part 0 8 (c .key) ++ zeros 24 ++ dwordsOf c ++ par
 -- what stands behind the key length is no part of the key
 abbrev pub keyOf : Command → Key
 keyOf c = take (c .len) (c .key)
+
+-- a byte other than zero stands there
+abbrev pub stale : Command → Bool
+stale c = not (allZero (drop (c .len) (c .key)))
 
 -- ---- the table of opcodes
 

@@ -45,8 +45,8 @@ record Fit (h : Label) (t : ℕ) (j : Key) (p : Pair) (x s : List ℕ) : Type 0 
   short : length (p .key) ≤ formatOf (h .index) .keymax
   small : length (p .value) ≤ formatOf (h .index) .valuemax
 
-clear-is : (s : List ℕ) → Bytes s → 16 ≤ length s → keyLength s ≤ 16 → clearWide (wideIn s) ≡ allZero (drop (keyLength s) (part 0 16 s))
-clear-is s b l k = clear-wide (keyLength s) (part 0 16 s) (bytes-part 0 16 s b l) (length-part 0 16 s l) k
+clear-is : (s : List ℕ) → Bytes s → 16 ≤ length s → clearWide (wideIn s) ≡ allZero (drop (keyLength s) (part 0 16 s))
+clear-is s b l = clear-wide (keyLength s) (part 0 16 s) (bytes-part 0 16 s b l) (length-part 0 16 s l)
 
 -- 32 bytes are their five parts
 five : (s a b c d e : List ℕ) → a ≡ part 0 16 s → b ≡ part 16 4 s → c ≡ part 20 4 s → d ≡ part 24 4 s → e ≡ part 28 4 s
@@ -88,7 +88,7 @@ module _ {h : Label} (permits : Permitted (h .index) (h .id) (h .size)) where
           eq-eqb (owner s) (h .id) (rw (← f .image) (id-in (h .id) t p k16 x (omega (arith, permits .id-high)))),
           widened-order wj (wide b),
           f .below,
-          clear-is s b (omega (arith, long)) (omega (arith, key-long, k16)),
+          clear-is s b (omega (arith, long)),
           key-long,
           sixteen,
           drop-append-seam,
@@ -103,7 +103,7 @@ module _ {h : Label} (permits : Permitted (h .index) (h .id) (h .size)) where
       let a = all-true (slotTests (h .id) (formatOf (h .index)) t w (slotIn s)) e in
       let top = leb-true k (formatOf (h .index) .keymax) (a .1 .0) in
       let short : k ≤ 16 = omega (arith, format-bounds (h .index) (permits .index)) in
-      let padded = sym (clear-is s b (omega arith) short) ∙ a .1 .1 .1 .1 .1 .1 .0 in
+      let padded = sym (clear-is s b (omega arith)) ∙ a .1 .1 .1 .1 .1 .1 .0 in
       let lk : length (take k s) ≡ k = length-take-le k s (omega arith) in
       let lv : length (take (valueLength s) vs) ≡ valueLength s = length-take-le (valueLength s) vs m in
       record {

@@ -18,7 +18,7 @@ abbrev μ-loop : tie.MeasureT-loop
 μ-loop rows i₀ i = length rows - i
 
 -- an array has its length
-long : (c : tie.Start Inv-loop μ-loop) → length (c .args .t1) ≡ 9
+long : (c : tie.Start Inv-loop μ-loop) → length (c .args .t1) ≡ 10
 long c = c .good .0 .1 .0 .1
 
 returns : tie.Need-returns Inv-loop μ-loop
