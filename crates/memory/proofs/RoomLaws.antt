@@ -30,9 +30,9 @@ module _ {f : Found} (m : List Pair) (l : Looked f (keys m)) where
     value-is = rw (l .slot) (sym (value-held (foundKey f) m (pair [] []) (sym (l .held) ∙ h)))
 
 -- a key found in the part that k names is found in the map
-pub looked-in : {k : Checked} {f : Found} {d v : List ℕ} → Legal k d v → (key : List ℕ) (n : ℕ) → f ≡ found key n (keysAt k d)
+pub looked-in : {k : Checked} {f : Found} {d v : List ℕ} → Legal k d v → (key : List ℕ) (n : ℕ) → n ≤ 16 → f ≡ found key n (keysAt k d)
     → Looked f (keys (pairsOf (memory d v)))
-looked-in g key n e = rw (e, keys-are g) (record { held = refl; slot = refl; short = omega arith })
+looked-in g key n h e = rw (e, keys-are g) (record { held = refl; slot = refl; short = h })
 
 -- in legal memory what the slot says is what the map says, and the sum has it in it
 module _ {k : Checked} {f : Found} {d v : List ℕ} (g : Legal k d v) (l : Looked f (keys (pairsOf (memory d v)))) (sixteen : length (f .key) ≡ 16) where

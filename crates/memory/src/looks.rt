@@ -9,6 +9,7 @@ ghost use mathlib.Core.Path.{_≡_};
 ghost use Prim.Native.Nat.{_+_};
 ghost use lib.ListN.{length, take};
 ghost use Rattle.octets.specs.Octets.{put};
+ghost use Rattle.octets.specs.Keys.{Padded};
 ghost use Rattle.wire.specs.Page.{page, shown};
 ghost use Rattle.store.specs.Maps.{valueOf};
 ghost use Rattle.store.specs.Finds.{found, foundKey};
@@ -16,7 +17,7 @@ ghost use Rattle.memory.specs.Memory.{memory, pairsOf};
 ghost use Rattle.memory.specs.Checks.{keysAt, roomAt, CanLook, CanWeigh, CanHand, CanList};
 
 pub fn look_up(directory: &[u8], k: Checked, key: [u8; 16], len: u8) -> Found
-    requires { ⌜ CanLook k (now directory) ⌝ }
+    requires { ⌜ CanLook k (now directory) × Padded len key ⌝ }
     ensures { λ r. ⌜ r ≡ found key len (keysAt k (now (directory .entry))) ⌝ }
 {
     let start = k.start;

@@ -6,7 +6,7 @@ use mathlib.Core.List.{List, [], _∷_, _++_, append-nil}
 use Prim.Native.Nat.{ℕ, zero, suc, _+_, _-_, _*_, _≤_, _<_}
 use native.Mathlib.Omega.{arith}
 use lib.Dec.{eqb, ltb, leb·suc-suc}
-use lib.ListN.{length, take, drop, length-append, length-replicate}
+use lib.ListN.{length, drop, length-append, length-replicate}
 use borrow.Author.Tests.{lt-ltb, le-ltb, eq-eqb, ne-eqb}
 use Rattle.octets.specs.declared.keys.Order.{Order}
 use Rattle.octets.specs.declared.keys.Order.the-variants.{Less, Equal, Greater}
@@ -113,14 +113,6 @@ widened-part at n xs b h l z =
     let f = part-filled at n 16 xs h l z in
     let m : length (part at n xs) ≡ n = length-part at n xs (omega arith) in
     record { is = ap₂ wideOf f (sym m); short = omega arith; bytes = rw f at (bytes-part at 16 xs b h) }
-
--- the first n bytes of sixteen: those past them may be anything
-pub widened-take : (n : ℕ) (xs : List ℕ) (w : Wide) → Bytes xs → length xs ≡ 16 → n ≤ 16 → w ≡ wideOf (filled 16 (take n xs)) n → Widened w (take n xs)
-unfolding part
-widened-take n xs w b h l e =
-    let m : length (take n xs) ≡ n = length-part 0 n xs (omega arith) in
-    let c = bytes-filled 16 (take n xs) (bytes-part 0 n xs b (omega arith)) in
-    record { is = e ∙ ap (wideOf (filled 16 (take n xs))) (sym m); short = omega arith; bytes = c }
 
 -- ---- what the tests on the numbers say
 

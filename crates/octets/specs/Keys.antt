@@ -1,11 +1,12 @@
 -- Keys are lists of bytes, in the order of a dictionary: the first byte that differs decides, and a key that runs out is the lower one.
 -- A key in sixteen bytes is also two numbers and a length. Assumes nothing.
 use mathlib.Core.Path.{_≡_, refl}
-use Prim.Native.Nat.{ℕ, _+_, _-_, _*_, _%_, _^_}
+use Prim.Native.Nat.{ℕ, _+_, _-_, _*_, _%_, _^_, _≤_}
 use mathlib.Core.Bool.{Bool, true, false, cond, _&&_}
 use mathlib.Core.List.{List, [], _∷_}
 use lib.Dec.{ltb, eqb}
-use Rattle.octets.specs.Octets.{part}
+use lib.ListN.{drop}
+use Rattle.octets.specs.Octets.{part, allZero}
 use Rattle.octets.specs.declared.keys.Order.{Order}
 use Rattle.octets.specs.declared.keys.Order.the-variants.{Less, Equal, Greater}
 use Rattle.octets.specs.declared.keys.Wide.{Wide}
@@ -61,6 +62,11 @@ rising (k ∷ ks) = belowFirst k ks && rising ks
 abbrev pub from : Key → List Key → List Key
 from j [] = []
 from j (k ∷ ks) = three (order j k) (k ∷ ks) (k ∷ ks) (from j ks)
+
+-- xs are the sixteen bytes of a key of n bytes, with zeros behind it
+pub record Padded (n : ℕ) (xs : List ℕ) : Type 0 where
+  pub short : n ≤ 16
+  pub padded : allZero (drop n xs) ≡ true
 
 -- the number whose bytes are xs, the highest first, behind those of n
 abbrev pub bigFrom : ℕ → List ℕ → ℕ

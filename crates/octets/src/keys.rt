@@ -74,7 +74,7 @@ pub fn equal(a: Wide, b: Wide) -> bool
     (a.high == b.high) & (a.low == b.low) & (a.len == b.len)
 }
 
-// Equal keys in such sixteen bytes have equal numbers.
+// The sixteen bytes that an entry and a page key have for a key.
 pub fn pad(key: &[u8]) -> [u8; 16]
     requires { ⌜ length (now key) ≤ 16 ⌝ }
     ensures { λ r. ⌜ r ≡ filled 16 (now (key .entry)) ⌝ }

@@ -2,10 +2,10 @@
 use mathlib.Core.Path.{_≡_}
 use mathlib.Core.Bool.{Bool, true, false}
 use mathlib.Core.List.{List, [], _∷_}
-use Prim.Native.Nat.{ℕ, zero, suc, min, _*_, _≤_, _<_}
+use Prim.Native.Nat.{ℕ, zero, suc, _*_, _≤_, _<_}
 use lib.ListN.{length, take, drop}
-use Rattle.octets.specs.Octets.{part, allZero}
-use Rattle.octets.specs.Keys.{Key, order, three, rising}
+use Rattle.octets.specs.Octets.{part}
+use Rattle.octets.specs.Keys.{Key, order, three, rising, Padded}
 use Rattle.store.specs.declared.finds.Found.{Found}
 use Rattle.store.specs.Records.{keyLength}
 
@@ -28,14 +28,11 @@ abbrev pub foundKey : Found → Key
 foundKey f = take (f .len) (f .key)
 
 abbrev pub found : List ℕ → ℕ → List Key → Found
-found key n ks =
-    let k = take (min n 16) key in
-    record { key = key; len = min n 16; held = hasKey k ks; slot = rank k ks }
+found key n ks = record { key = key; len = n; held = hasKey (take n key) ks; slot = rank (take n key) ks }
 
--- the key of the record at the front of s is within its sixteen bytes and has zeros behind it
-pub record KeyFits (s : List ℕ) : Type 0 where
-  pub short : keyLength s ≤ 16
-  pub padded : allZero (drop (keyLength s) (part 0 16 s)) ≡ true
+-- so stands the key of the record at the front of s
+abbrev pub KeyFits : List ℕ → Type 0
+KeyFits s = Padded (keyLength s) (part 0 16 s)
 
 -- n records lie in s, whose keys fit and rise
 pub record KeysFit (n : ℕ) (s : List ℕ) : Type 0 where

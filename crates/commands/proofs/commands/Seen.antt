@@ -2,11 +2,12 @@
 use mathlib.Core.Path.{_≡_, sym, _∙_}
 use mathlib.Core.Bool.{true, false}
 use mathlib.Core.List.{List}
-use Prim.Native.Nat.{ℕ, min, _≤_}
+use Prim.Native.Nat.{ℕ, _≤_}
 use native.Mathlib.Omega.{arith}
 use lib.Dec.{eqb}
 use lib.ListN.{length}
 use borrow.Author.Tests.{ne-eqb}
+use Rattle.octets.specs.Keys.{Padded}
 use Rattle.octets.specs.Tests.{firstOf}
 use Rattle.octets.proofs.TestLaws.{none-holds, none-first, some-first, known, holds, fails}
 use Rattle.wire.specs.declared.entries.Command.{Command}
@@ -18,7 +19,7 @@ use Rattle.store.specs.Finds.{found, foundKey}
 use Rattle.store.proofs.RankLaws.{has-present}
 use Rattle.memory.specs.declared.checks.Checked.{Checked}
 use Rattle.memory.specs.Memory.{memory, namespaceOf, pairsOf, legal}
-use Rattle.memory.specs.Checks.{checked, keysAt, roomAt, Looked, CanWeigh}
+use Rattle.memory.specs.Checks.{checked, keysAt, roomAt, Looked, CanLook, CanWeigh}
 use Rattle.memory.proofs.LegalLaws.{checked-legal, legal-checked}
 use Rattle.memory.proofs.RoomLaws.{looked-in, room-is, room-sum, can-weigh}
 use Rattle.commands.specs.declared.steps.View.{View}
@@ -76,37 +77,38 @@ module _ (c : Command) (b d v : List ℕ) where
 
   -- ---- steps i and j
 
-  module _ {k : Checked} {f : Found} (a : Admitted c k (length b) d v) (l : length (c .key) ≡ 16)
-      (ef : f ≡ found (c .key) (c .len) (keysAt k d)) where
+  module _ {k : Checked} (a : Admitted c k (length b) d v) where
     early : PassedToH (viewOf true s (length b)) c
     early = passed-to-h _ c (none-holds (stepsToH (viewOf true s (length b)) c) tt (a .early))
 
-    key-is : foundKey f ≡ keyOf c
-    key-is =
-        let n : min (c .len) 16 ≡ c .len = omega (arith, early .sixteen) in
-        rw (ef, n)
+    pub looks : CanLook k d × Padded (c .len) (c .key)
+    looks = (a .legal .look, record { short = early .sixteen; padded = early .clear })
 
-    looked : Looked f (keys (pairsOf (memory d v)))
-    looked = looked-in (a .legal) (c .key) (c .len) ef
+    module _ {f : Found} (l : length (c .key) ≡ 16) (ef : f ≡ found (c .key) (c .len) (keysAt k d)) where
+      key-is : foundKey f ≡ keyOf c
+      key-is = rw ef
 
-    pub weighs : CanWeigh k f d
-    weighs = can-weigh (a .legal) looked (rw ef l)
+      looked : Looked f (keys (pairsOf (memory d v)))
+      looked = looked-in (a .legal) (c .key) (c .len) (early .sixteen) ef
 
-    pub weighed : roomAt k f d ≤ k .used
-    weighed = room-sum (a .legal) looked (rw ef l)
+      pub weighs : CanWeigh k f d
+      weighs = can-weigh (a .legal) looked (rw ef l)
 
-    module _ {old st : ℕ} (eo : old ≡ roomAt k f d) (e : st ≡ firstOf (stepsFromI (stock k f old) c)) where
-      status-is : statusOf true s c (length b) ≡ st
-      unfolding statusOf steps
-      status-is =
-          let held : f .held ≡ present (keyOf c) (pairsOf (memory d v)) = looked .held ∙ rw key-is (has-present (keyOf c) (pairsOf (memory d v))) in
-          let room : old ≡ heldRoom (keyOf c) (pairsOf (memory d v)) = eo ∙ room-is (a .legal) looked (rw ef l) ∙ rw key-is in
-          let x = viewOf true s (length b) in
-          none-first (stepsToH x c) (stepsFromI (stockOf s (keyOf c)) c) (none-holds (stepsToH x c) tt (a .early))
-          ∙ sym (e ∙ rw (held, room, a .legal .is))
+      pub weighed : roomAt k f d ≤ k .used
+      weighed = room-sum (a .legal) looked (rw ef l)
 
-      pub refused-late : (st ≡ 0 → ⊥) → response st 0 b d v ≡ respond c b (memory d v)
-      refused-late q = refusing (rw (a .legal .legal) status-is) q
+      module _ {old st : ℕ} (eo : old ≡ roomAt k f d) (e : st ≡ firstOf (stepsFromI (stock k f old) c)) where
+        status-is : statusOf true s c (length b) ≡ st
+        unfolding statusOf steps
+        status-is =
+            let held : f .held ≡ present (keyOf c) (pairsOf (memory d v)) = looked .held ∙ rw key-is (has-present (keyOf c) (pairsOf (memory d v))) in
+            let room : old ≡ heldRoom (keyOf c) (pairsOf (memory d v)) = eo ∙ room-is (a .legal) looked (rw ef l) ∙ rw key-is in
+            let x = viewOf true s (length b) in
+            none-first (stepsToH x c) (stepsFromI (stockOf s (keyOf c)) c) (none-holds (stepsToH x c) tt (a .early))
+            ∙ sym (e ∙ rw (held, room, a .legal .is))
 
-      pub ruled : st ≡ 0 → Ruled c k f (length b) d v
-      ruled q = record { legal = a .legal; looked = looked; key = key-is; sixteen = rw ef l; given = l; status = status-is ∙ q }
+        pub refused-late : (st ≡ 0 → ⊥) → response st 0 b d v ≡ respond c b (memory d v)
+        refused-late q = refusing (rw (a .legal .legal) status-is) q
+
+        pub ruled : st ≡ 0 → Ruled c k f (length b) d v
+        ruled q = record { legal = a .legal; looked = looked; key = key-is; sixteen = rw ef l; given = l; status = status-is ∙ q }

@@ -2,7 +2,7 @@
 use mathlib.Core.Path.{_≡_, sym, _∙_, ap}
 use mathlib.Core.Bool.{Bool, true, false}
 use mathlib.Core.List.{List, []}
-use Prim.Native.Nat.{ℕ, min, _+_, _*_, _≤_, _<_}
+use Prim.Native.Nat.{ℕ, _+_, _*_, _≤_, _<_}
 use native.Mathlib.Omega.{arith}
 use lib.Dec.{ltb}
 use lib.ListN.{length, take, drop, getD, length-drop}
@@ -34,12 +34,12 @@ pub record Halved (n : ℕ) (s : List ℕ) (w : Wide) (low high : ℕ) : Type 0 
 pub halved-none : (n : ℕ) (s : List ℕ) (w : Wide) → Halved n s w 0 n
 halved-none n s w = record { inside = omega arith; is = λ k g. (omega arith, omega (arith, rank-le k (keysIn n s), length-keys-in n s)) }
 
-pub halved-past : {n : ℕ} {s : List ℕ} {w : Wide} {low high l : ℕ} (key : List ℕ) (len : ℕ) → Halved n s w low high → l ≡ min len 16
-    → Widened w (take l key) → high ≤ low → n ≤ low → record { key = key; len = l; held = false; slot = low } ≡ found key len (keysIn n s)
-halved-past {n} {s} {w} {low} key len p e g q h =
-    let k = take (min len 16) key in
-    let r : rank k (keysIn n s) ≡ low = omega (arith, p .is k (rw e at g)) in
-    rw (e, r, has-past k (keysIn n s) (omega (arith, length-keys-in n s)))
+pub halved-past : {n : ℕ} {s : List ℕ} {w : Wide} {low high : ℕ} (key : List ℕ) (len : ℕ) → Halved n s w low high
+    → Widened w (take len key) → high ≤ low → n ≤ low → record { key = key; len = len; held = false; slot = low } ≡ found key len (keysIn n s)
+halved-past {n} {s} {w} {low} key len p g q h =
+    let k = take len key in
+    let r : rank k (keysIn n s) ≡ low = omega (arith, p .is k g) in
+    rw (r, has-past k (keysIn n s) (omega (arith, length-keys-in n s)))
 
 module _ {n : ℕ} {s : List ℕ} {w : Wide} (f : KeysFit n s) (b : Bytes s) where
   slot-order : (j : ℕ) (k : Key) → j < n → Widened w k → met s w j ≡ order (getD (keysIn n s) j []) k
@@ -64,14 +64,13 @@ module _ {n : ℕ} {s : List ℕ} {w : Wide} (f : KeysFit n s) (b : Bytes s) whe
       let down : (k : Key) → Widened w k → rank k (keysIn n s) ≤ j = λ k g. ltb-false j (rank k (keysIn n s)) (sym (slot-test j k (omega arith) g) ∙ e) in
       record { inside = omega arith; is = λ k g. (p .is k g .0, down k g) }
 
-  pub halved-found : {low high l : ℕ} (key : List ℕ) (len : ℕ) (t : Bool) → Halved n s w low high → l ≡ min len 16 → Widened w (take l key)
+  pub halved-found : {low high : ℕ} (key : List ℕ) (len : ℕ) (t : Bool) → Halved n s w low high → Widened w (take len key)
       → t ≡ isEqual (met s w low) → high ≤ low → low < n
-      → record { key = key; len = l; held = t; slot = low } ≡ found key len (keysIn n s)
-  halved-found {low} key len t p e g u q h =
-      let k = take (min len 16) key in
-      let gk : Widened w k = rw e at g in
-      let r : rank k (keysIn n s) ≡ low = omega (arith, p .is k gk) in
+      → record { key = key; len = len; held = t; slot = low } ≡ found key len (keysIn n s)
+  halved-found {low} key len t p g u q h =
+      let k = take len key in
+      let r : rank k (keysIn n s) ≡ low = omega (arith, p .is k g) in
       let b : hasKey k (keysIn n s) ≡ isEqual (order (getD (keysIn n s) low []) k) =
       rw r at (has-at k (keysIn n s) (omega (arith, length-keys-in n s))) in
-      let c : t ≡ hasKey k (keysIn n s) = u ∙ ap isEqual (slot-order low k h gk) ∙ sym b in
-      rw (e, r, c)
+      let c : t ≡ hasKey k (keysIn n s) = u ∙ ap isEqual (slot-order low k h g) ∙ sym b in
+      rw (r, c)

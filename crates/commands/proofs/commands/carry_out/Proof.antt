@@ -2,13 +2,18 @@ use native.Mathlib.Omega.{arith}
 use mathlib.Core.Path.{_≡_}
 use lib.ListN.{length, length-map}
 use borrow.Author.Needs.{needs}
-use Rattle.commands.proofs.commands.Seen.{weighs, weighed, refused-late, ruled}
+use Rattle.commands.proofs.commands.Seen.{looks, weighs, weighed, refused-late, ruled}
 use Rattle.commands.proofs.commands.carry_out.Statement.{statement}
 use Rattle.commands.proofs.commands.carry_out.Tie as tie
 
 -- an array within a struct has its length
 sixteen : (c : tie.Start) → length (c .args .c .key) ≡ 16
 sixteen c = simp length-map at (c .good .0 .1 .1 .1 .1 .1 .1 .0 .1 .0 .1)
+
+look-up-requires : tie.Need-look-up-requires
+look-up-requires c κs =
+    let s = c .before .before .before .before .before in
+    looks (s .args .c) (s .args .buffer .now) _ _ (s .pre)
 
 held-room-requires : tie.Need-held-room-requires
 held-room-requires c κs =
@@ -42,5 +47,5 @@ perform-requires c κs =
 pub carry-out-spec : {M : Type 1} → statement M
 carry-out-spec =
     tie.close
-    (tie.spec (λ c κs. c .before .before .before .before .before .pre .legal .look) held-room-requires decide-late-requires (λ c. search needs) returns
+    (tie.spec look-up-requires held-room-requires decide-late-requires (λ c. search needs) returns
     perform-requires (λ c. search needs) (λ c. search needs) (λ c. search needs) (λ c. search needs))
