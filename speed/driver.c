@@ -21,16 +21,17 @@ __attribute__((noinline)) int measured(void) {
     return number == 0 && (completion[14] | completion[15] << 8) >> 1 == 0;
 }
 
-/* key i of n, eight bytes; i rises with the key */
+/* key i of n, eight bytes; i rises with the key; a List has none */
 static void prepare(int opcode, uint32_t i, uint32_t amount) {
     uint32_t high = __builtin_bswap32(i * 4194301u);
     memset(entry, 0, sizeof entry);
     entry[0] = opcode;
     entry[4] = 1;
+    memcpy(entry + 40, &amount, 4);
+    if (opcode == KV_LIST) return;
     memcpy(entry + 8, &high, 4);
     memcpy(entry + 12, "tag!", 4);
-    memcpy(entry + 40, &amount, 4);
-    entry[44] = opcode == KV_LIST ? 0 : 8;
+    entry[44] = 8;
 }
 
 /* the store, but for the key that a Store is to bring */

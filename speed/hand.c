@@ -46,8 +46,8 @@ static int permitted(uint32_t index, uint32_t id, uint64_t size) {
 
 static uint32_t max_keys(uint32_t index) { return 1024u >> (2 * (index / 4)); }
 
-/* step a, and the numbers that the other steps look at */
-static int check(struct store *s, uint8_t *directory, size_t dlen, uint8_t *values, size_t vlen) {
+/* step a, and the numbers that the other steps look at; a function of its own, so that its loop has the registers to itself */
+__attribute__((noinline)) static int check(struct store *s, uint8_t *directory, size_t dlen, uint8_t *values, size_t vlen) {
     if (dlen < 64) return 0;
     struct head h = { load32(directory), load32(directory + 4), load32(directory + 8), load32(directory + 12) };
     if (permitted(h.index, h.id, h.size)) return 0;

@@ -1,2 +1,2 @@
--- The loop of `first_of`.
+-- The first test that holds.
 mod Rows

@@ -1,4 +1,5 @@
--- The bench cases P1 to P12 of document 01, P10 as changed by request [1], those of [1] and [13]: one table, and one statement about the definitions. Assumes nothing.
+-- The bench cases P1 to P12 of document 01, P10 as changed by request [1], and those of requests [1] and [13]: one table, and one statement
+-- about the definitions. Assumes nothing.
 use mathlib.Core.Path.{_≡_, refl}
 use mathlib.Core.Bool.{true}
 use mathlib.Core.List.{List, [], _∷_, _++_, map}

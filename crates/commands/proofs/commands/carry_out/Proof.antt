@@ -33,7 +33,8 @@ returns c =
     let h = d .before in
     let f = h .before .before in
     let s = f .before .before .before .before .before .before in
-    refused-late (s .args .c) (s .args .buffer .now) _ _ (s .pre) (sixteen s) (f .look-up .ensures) (h .held-room .ensures) (d .decide-late .ensures) (c .if1 .taken)
+    refused-late (s .args .c) (s .args .buffer .now) _ _ (s .pre) (sixteen s) (f .look-up .ensures) (h .held-room .ensures) (d .decide-late .ensures)
+    (c .if1 .taken)
 
 perform-requires : tie.Need-perform-requires
 perform-requires c κs =

@@ -1,4 +1,5 @@
 use borrow.Author.Needs.{needs}
+use Rattle.commands.proofs.steps.Rows.{third-of-three, none-of-three}
 use Rattle.commands.proofs.steps.decide_late.Statement.{statement}
 use Rattle.commands.proofs.steps.decide_late.Tie as tie
 
@@ -11,12 +12,12 @@ returns-2 c = rw (c .before .before .if1 .left, c .if2 .taken)
 returns-3 : tie.Need-returns-3
 returns-3 c =
     let i = c .before .before .before in
-    rw (i .before .before .if1 .left, i .if2 .left, c .if3 .taken)
+    third-of-three _ _ _ 0x87 0x89 0x81 (i .before .before .if1 .left) (i .if2 .left) (c .if3 .taken)
 
 returns-4 : tie.Need-returns-4
 returns-4 c =
     let i = c .before .before .before in
-    rw (i .before .before .if1 .left, i .if2 .left, c .if3 .left)
+    none-of-three _ _ _ 0x87 0x89 0x81 (i .before .before .if1 .left) (i .if2 .left) (c .if3 .left)
 
 pub decide-late-spec : {M : Type 1} → statement M
 decide-late-spec =
