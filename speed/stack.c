@@ -59,8 +59,9 @@ static size_t deepest(int opcode, uint32_t dword10) {
         prepare(KV_STORE, i, VALUE, 8);
         command();
         if (i % 64 != 63) continue;
-        for (int try = 0; try < 3; try++) { /* a key length of 17; a key that is not there; a key that is */
-            prepare(opcode, try == 1 ? KEYS : i / 2, dword10, try == 0 ? 17 : 8);
+        for (int try = 0; try < 4; try++) { /* a key length of 17; a byte behind the key; a key that is not there; a key that is */
+            prepare(opcode, try == 2 ? KEYS : i / 2, dword10, try == 0 ? 17 : 8);
+            entry[63] = try == 1;
             d = deeper(d, command);
         }
     }

@@ -1,17 +1,16 @@
 -- What the builder writes where nothing is refused; and an entry that was built is read as the command that was asked for.
 -- Assumes nothing.
-use mathlib.Core.Path.{_≡_}
+use mathlib.Core.Path.{_≡_, refl}
 use mathlib.Core.Bool.{Bool, true, false, cond, _||_}
 use mathlib.Core.List.{List}
-use Prim.Native.Nat.{ℕ, _-_, _^_, _≤_, _<_}
+use Prim.Native.Nat.{ℕ, _^_, _≤_, _<_}
 use native.Mathlib.Omega.{arith}
-use lib.ListN.{length, drop}
-use lib.Seq.{take-append-seam, drop-append-seam}
+use lib.ListN.{length}
+use lib.Seq.{take-append-seam}
 use borrow.Author.Tests.{eq-eqb, le-ltb, ltb-false}
-use Rattle.octets.specs.Octets.{filled, allZero}
 use Rattle.octets.specs.Keys.{Key}
 use Rattle.octets.proofs.TestLaws.{none-holds}
-use Rattle.octets.proofs.ZeroLaws.{length-filled, zeros-all}
+use Rattle.octets.proofs.ZeroLaws.{length-filled, zeros-behind}
 use Rattle.wire.specs.Entry.{readCommand, writeCommand, known, isDelete, isExist, keyOf, stale}
 use Rattle.wire.proofs.EntryLaws.{command-back, stale-back}
 use Rattle.host.specs.Build.{command, buildSteps, built, build}
@@ -37,8 +36,7 @@ module _ (o cid nsid : ℕ) (k : Key) (dword10 options : ℕ) (e : List ℕ) whe
   build-clear h =
       let r = none-holds (buildSteps e o k) tt h in
       let l = length-filled 16 k (ltb-false 16 (length k) (r .1 .0)) in
-      let z : allZero (drop (length k) (filled 16 k)) ≡ true = rw drop-append-seam (zeros-all (16 - length k)) in
-      rw (h, stale-back (command o cid nsid k dword10 options) l, z)
+      rw (h, stale-back (command o cid nsid k dword10 options) l, zeros-behind 16 k refl)
 
   pub build-read : build e o cid nsid k dword10 options .number ≡ 0 → cid < 256 ^ 2 → nsid < 256 ^ 4 → dword10 < 256 ^ 4
       → readCommand (build e o cid nsid k dword10 options .entry) ≡ command o cid nsid k dword10 options

@@ -6,6 +6,12 @@ use native.Mathlib.Nat.{pow-suc}
 use native.Mathlib.Omega.{arith}
 use lib.ListN.{length, drop, getD, length-drop}
 use lib.Seq.{getD-drop}
+use mir.Syntax.{w8}
+use mir.Val.{Val}
+use denote.Array.{each}
+use denote.Plain.{UInt}
+use denote.Shadow.{shadow}
+use borrow.Author.Needs.{elem-fits}
 use Rattle.octets.specs.Octets.{part, number, bytes}
 use Rattle.octets.proofs.PartLaws.{length-part, getD-part}
 
@@ -19,6 +25,10 @@ number-bytes (suc k) n h =
 
 abbrev pub Bytes : List ℕ → Type 0
 Bytes xs = (i : ℕ) → i < length xs → getD xs i 0 < 256
+
+-- what an array of bytes holds
+pub array-bytes : (xs : List ℕ) (us : List Val) → shadow (each ℕ (UInt w8 .own) xs us) → Bytes xs
+array-bytes xs us p i l = elem-fits w8 w8 xs us i p tt .fits
 
 pub bytes-number : (xs : List ℕ) → Bytes xs → bytes (length xs) (number xs) ≡ xs
 unfolding number

@@ -8,7 +8,7 @@ use native.Mathlib.Omega.{arith}
 use lib.Bits.{bitOr, or-zero-l, or-add-and, and-le-r}
 use lib.Dec.{eqb}
 use lib.ListN.{length, drop, length-append, length-drop, length-replicate, getD-replicate, take-append-drop}
-use lib.Seq.{take-take}
+use lib.Seq.{take-take, drop-append-seam}
 use borrow.Author.Tests.{eqb-true, eq-eqb, ne-eqb}
 use Rattle.octets.specs.Octets.{part, put, zeros, filled, allZero, same}
 use Rattle.octets.proofs.TestLaws.{both}
@@ -52,6 +52,9 @@ same-true (x ∷ xs) (y ∷ ys) e =
 
 pub length-filled : (n : ℕ) (xs : List ℕ) → length xs ≤ n → length (filled n xs) ≡ n
 length-filled n xs h = simp (length-append, length-replicate) (omega arith)
+
+pub zeros-behind : (n : ℕ) (xs : List ℕ) {s : List ℕ} → s ≡ filled n xs → allZero (drop (length xs) s) ≡ true
+zeros-behind n xs e = rw (e, drop-append-seam) (zeros-all (n - length xs))
 
 drop-zeros : (n k : ℕ) → drop k (zeros n) ≡ zeros (n - k)
 drop-zeros n zero = rw sub-zero

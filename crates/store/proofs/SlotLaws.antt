@@ -1,14 +1,14 @@
 -- What stands at a slot of an image: the words of its record, its key and its value. Assumes nothing.
-use mathlib.Core.Path.{_≡_, sym, ap, _∙_}
+use mathlib.Core.Path.{_≡_, refl, sym, ap, _∙_}
 use mathlib.Core.List.{List, [], _∷_, _++_, append-assoc}
 use Prim.Native.Nat.{ℕ, suc, _+_, _-_, _*_, _^_, _≤_, _<_}
 use native.Mathlib.Nat.{zero-add}
 use native.Mathlib.Omega.{arith}
 use lib.ListN.{length, take, drop, length-append, length-drop, take-append-drop}
-use lib.Seq.{length-take-le, drop-cons, drop-at, drop-append-seam, split-at}
+use lib.Seq.{length-take-le, drop-cons, drop-at, split-at}
 use Rattle.octets.specs.Octets.{part, zeros}
 use Rattle.octets.proofs.PartLaws.{part-seam}
-use Rattle.octets.proofs.ZeroLaws.{zeros-all}
+use Rattle.octets.proofs.ZeroLaws.{zeros-behind}
 use Rattle.store.specs.Maps.{Pair, pair, values}
 use Rattle.store.specs.Records.{recordOf, recordsOf, recordsPart, valuesPart, keyLength, place, valueLength, valueIn}
 use Rattle.store.specs.Parts.{Recorded, Holds, inserted, erased}
@@ -109,7 +109,7 @@ module _ {id n l : ℕ} {m : List Pair} {s vs : List ℕ} (h : Holds id n l m s 
   key-fits-at =
       record {
         short = rw key-length-at (r .0);
-        padded = rw (key-length-at, slot, sixteen-in id at p (r .0) behind, drop-append-seam) (zeros-all (16 - length (p .key)));
+        padded = rw (key-length-at, slot, sixteen-in id at p (r .0) behind) (zeros-behind 16 (p .key) refl);
       }
 
   pub value-at : valueIn (drop (32 * i) s) vs ≡ p .value

@@ -16,7 +16,7 @@ use Rattle.octets.proofs.PartLaws.{part-rest}
 use Rattle.octets.proofs.NumberLaws.{Bytes}
 use Rattle.octets.proofs.OrderLaws.{BelowFirst}
 use Rattle.octets.proofs.TestLaws.{refuted, contrary, both, neither}
-use Rattle.octets.proofs.ZeroLaws.{zeros-all, all-zeros}
+use Rattle.octets.proofs.ZeroLaws.{all-zeros, zeros-behind}
 use Rattle.octets.proofs.WideLaws.{widened-none}
 use Rattle.store.specs.declared.formats.Format.{Format}
 use Rattle.store.specs.declared.namespaces.Label.{Label}
@@ -55,9 +55,6 @@ filled-by {n} xs r {s} e l z =
     let d : drop (length xs) s ≡ r = rw (← e) (drop-append-seam xs r) in
     let k : length r ≡ n - length xs = omega (arith, l, simp length-append at (ap length e)) in
     sym e ∙ rw (← k) (ap (λ (ys : List ℕ). xs ++ ys) (all-zeros r (rw d at z)))
-
-zeros-behind : (n : ℕ) (xs : List ℕ) {s : List ℕ} → s ≡ filled n xs → allZero (drop (length xs) s) ≡ true
-zeros-behind n xs e = rw (e, drop-append-seam) (zeros-all (n - length xs))
 
 -- the values that stand in vs are its first bytes
 front : (n : ℕ) (s vs : List ℕ) → (r : List ℕ) × (values (pairsIn n s vs) ++ r ≡ vs)

@@ -2,11 +2,11 @@
 use mathlib.Core.Path.{_≡_, refl, sym, ap, _∙_}
 use mathlib.Core.Bool.{Bool, true, false, cond}
 use mathlib.Core.List.{List, [], _∷_, _++_, append-assoc}
-use Prim.Native.Nat.{ℕ, zero, suc, _+_, _-_, _*_, _^_, _≤_, _<_}
+use Prim.Native.Nat.{ℕ, zero, suc, _+_, _*_, _^_, _≤_, _<_}
 use native.Mathlib.Nat.{add-zero}
 use native.Mathlib.Omega.{arith}
 use lib.ListN.{length, take, drop, length-append, length-drop, take-append-drop}
-use lib.Seq.{length-take-le, drop-append-seam}
+use lib.Seq.{length-take-le}
 use borrow.Author.Tests.{leb-true, eqb-true, le-leb, eq-eqb}
 use Rattle.octets.specs.declared.keys.Wide.{Wide}
 use Rattle.octets.specs.Octets.{part, bytes, filled, allZero}
@@ -16,7 +16,7 @@ use Rattle.octets.proofs.PartLaws.{length-part, part-two}
 use Rattle.octets.proofs.NumberLaws.{Bytes, bytes-part, bytes-drop, bytes-in}
 use Rattle.octets.proofs.TestLaws.{all-true}
 use Rattle.octets.proofs.OrderLaws.{Below, BelowFirst, Rising, less-true}
-use Rattle.octets.proofs.ZeroLaws.{zeros-all, part-filled}
+use Rattle.octets.proofs.ZeroLaws.{zeros-behind, part-filled}
 use Rattle.octets.proofs.ClearLaws.{clear-wide}
 use Rattle.octets.proofs.WideLaws.{Widened, widened-order, widened-part}
 use Rattle.store.specs.declared.namespaces.Label.{Label}
@@ -91,8 +91,7 @@ module _ {h : Label} (permits : Permitted (h .index) (h .id) (h .size)) where
           clear-is s b (omega (arith, long)),
           key-long,
           sixteen,
-          drop-append-seam,
-        ) (zeros-all (16 - length (p .key)))
+        ) (zeros-behind 16 (p .key) refl)
 
   -- bytes that pass are the record of the pair that stands in them
   fits : {t : ℕ} {w : Wide} {j : Key} (s vs : List ℕ) → Widened w j → Bytes s → 32 ≤ length s → valueLength s ≤ length vs

@@ -3,11 +3,10 @@ use mathlib.Core.Bool.{true}
 use Prim.Native.Nat.{_-_}
 use native.Mathlib.Omega.{arith}
 use lib.ListN.{take, drop}
-use mir.Syntax.{w8}
-use borrow.Author.Needs.{needs, elem-fits}
+use borrow.Author.Needs.{needs}
 use Rattle.octets.specs.Octets.{part, allZero}
 use Rattle.octets.specs.Keys.{isLess, isEqual}
-use Rattle.octets.proofs.NumberLaws.{Bytes}
+use Rattle.octets.proofs.NumberLaws.{Bytes, array-bytes}
 use Rattle.octets.proofs.PartLaws.{part-whole}
 use Rattle.octets.proofs.WideLaws.{Widened, widened-part}
 use Rattle.store.proofs.finds.Halves.{tested, Halved, halved-none, halved-up, halved-down, halved-found, halved-past}
@@ -32,8 +31,7 @@ wanted c =
     let g = s .good .1 .1 .0 in
     let l = g .1 .0 .1 in
     let z : allZero (drop (s .args .len) (part 0 16 k)) ≡ true = rw (part-whole 16 k l) (s .pre .1 .padded) in
-    rw (c .widen .ensures)
-    (widened-part 0 (s .args .len) k (λ i h. elem-fits w8 w8 k (g .0) i (g .1 .1) tt .fits) (omega arith) (s .pre .1 .short) z)
+    rw (c .widen .ensures) (widened-part 0 (s .args .len) k (array-bytes k (g .0) (g .1 .1)) (omega arith) (s .pre .1 .short) z)
 
 loop-again : tie.Need-loop-again Inv-loop μ-loop
 loop-again c =
