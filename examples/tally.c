@@ -1,5 +1,5 @@
-/* A morning in the yard: each click of the pliers stores a tag's record; in the evening the host walks the store and prints the
- * tally. Host and cabinet are one program here, so an entry goes from kv_build straight to kv_command. */
+/* A morning in the yard: each click of the pliers stores a tag's record; in the evening the host walks the store, prints the tally and
+ * shows how full the cabinet is. Host and cabinet are one program here, so an entry goes from kv_build straight to kv_command. */
 #include "kv.h"
 
 int printf(const char *, ...);
@@ -69,6 +69,17 @@ static int tally(uint32_t *count) {
     return 1;
 }
 
+/* how full the store is; the tally and the poll count the same tags */
+static int bar(uint32_t tags) {
+    struct kv_room room = kv_used(directory, sizeof directory, values, sizeof values);
+    if (room.number != KV_DONE || room.keys != tags) {
+        printf("poll: number %u, %u tags\n", room.number, room.keys);
+        return 0;
+    }
+    printf("used %u of %u bytes, %u tags\n", room.used, SIZE, room.keys);
+    return 1;
+}
+
 int main(void) {
     uint32_t count;
     if (kv_format(FORMAT, NAMESPACE, SIZE, directory, sizeof directory, values, sizeof values) != KV_DONE) return 1;
@@ -78,7 +89,6 @@ int main(void) {
         if (!done(ask(KV_STORE, morning[i][0], strlen(morning[i][0]), n))) return 1;
     }
     if (!done(ask(KV_DELETE, "ES-0417-01", 10, 0))) return 1;
-    if (!tally(&count)) return 1;
-    printf("%u tags\n", count);
+    if (!tally(&count) || !bar(count)) return 1;
     return 0;
 }

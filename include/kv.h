@@ -7,7 +7,8 @@
  * writes them in between. Of `directory` 64 + 32 x max keys bytes are needed, of `values` as many as the size; bytes past the
  * needed part change no outcome and are never written.
  *
- * Each call returns a number. 0 is "done". Any other number is a refusal that has written nothing at all. */
+ * Each call gives a number. 0 is "done". Any other number is a refusal that has written nothing at all, and every other field that the
+ * call gives is 0 then. */
 #ifndef KV_H
 #define KV_H
 
@@ -26,7 +27,8 @@ enum {
     KV_FORMAT_INDEX = 3,      /* format index above 15 */
     KV_NAMESPACE_ID = 4,      /* namespace id 0 or FFFFFFFFh */
     KV_SIZE = 5,              /* size outside 1 to 65,536 */
-    KV_SLICE_LENGTH = 6       /* directory or value slice shorter than the format and the size need */
+    KV_SLICE_LENGTH = 6,      /* directory or value slice shorter than the format and the size need */
+    KV_ILLEGAL = 18           /* store memory not legal */
 };
 
 /* Statuses, carried by the completion of a call that returned 0. All but KV_SUCCESS leave store and data buffer unchanged. */
@@ -58,8 +60,17 @@ uint32_t kv_command(const uint8_t *entry, size_t entry_len, uint8_t *completion,
                     size_t data_len, uint8_t *directory, size_t directory_len, uint8_t *values, size_t values_len, uint16_t head,
                     uint16_t queue, uint16_t phase);
 
+/* How full the store is: `used` is the sum of the key lengths and value lengths of the pairs held, out of the size that was formatted,
+ * and `keys` their number. */
+struct kv_room {
+    uint32_t number, used, keys;
+};
+
+/* Used room and the number of keys, for a host that draws a bar. Reads the store as a command does and writes nothing. Number 18. */
+struct kv_room kv_used(const uint8_t *directory, size_t directory_len, const uint8_t *values, size_t values_len);
+
 /* ---- The host's side, in libhost.a (`rt staticlib host`). It needs no store: an entry is built, a completion and a List page are
- * read. Each call gives a number as above; where that is not 0, every other field that it gives is 0. */
+ * read. Each call gives a number as above. */
 
 /* Numbers of the host's side, with 1 and 2. */
 enum {

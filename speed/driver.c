@@ -1,5 +1,5 @@
-/* One command on a store of n keys, for counting its instructions. `driver COMMAND N` writes that store to standard output; `driver
-   COMMAND N give` reads it and gives the command once, and `driver COMMAND N skip` does all but that. */
+/* One call on a store of n keys, for counting its instructions: a command, or kv_used. `driver CALL N` writes that store to standard
+   output; `driver CALL N give` reads it and makes the call once, and `driver CALL N skip` does all but that. */
 #include "kv.h"
 
 typedef struct file FILE;
@@ -14,8 +14,11 @@ enum { INDEX = 1, SIZE = 65536, VALUE = 32, PAGE = 4096 };
 
 static uint8_t directory[64 + 32 * 1024], values[SIZE], data[PAGE], completion[16], entry[64];
 
-/* whether the entry's command succeeds */
+static int poll; /* the call is kv_used */
+
+/* whether the entry's command, or the poll, succeeds */
 __attribute__((noinline)) int measured(void) {
+    if (poll) return kv_used(directory, sizeof directory, values, sizeof values).number == 0;
     uint32_t number
         = kv_command(entry, 64, completion, 16, data, sizeof data, directory, sizeof directory, values, sizeof values, 1, 1, 1);
     return number == 0 && (completion[14] | completion[15] << 8) >> 1 == 0;
@@ -55,5 +58,6 @@ int main(int argc, char **argv) {
         return !(filled(opcode, n) && fwrite(directory, sizeof directory, 1, stdout) && fwrite(values, SIZE, 1, stdout));
     if (!fread(directory, sizeof directory, 1, stdin) || !fread(values, SIZE, 1, stdin)) return 1;
     prepare(opcode, n / 2, opcode == KV_LIST ? PAGE : VALUE);
+    poll = argv[1][0] == 'U';
     return argv[3][0] == 'g' && !measured();
 }

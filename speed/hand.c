@@ -7,8 +7,8 @@
 #define memmove __builtin_memmove
 #define memset __builtin_memset
 
-struct head { uint32_t id, index, size, count; };
-struct store { struct head h; uint32_t keymax, valuemax, maxkeys, total, used; uint8_t *records, *values; };
+struct head { uint32_t id, index, size, count, used; };
+struct store { struct head h; uint32_t keymax, valuemax, maxkeys, total; uint8_t *records, *values; };
 struct wide { uint64_t high, low; };
 
 static uint32_t load32(const uint8_t *p) { uint32_t x; memcpy(&x, p, 4); return x; }
@@ -47,12 +47,12 @@ static int permitted(uint32_t index, uint32_t id, uint64_t size) {
 static uint32_t max_keys(uint32_t index) { return 1024u >> (2 * (index / 4)); }
 
 /* step a, and the numbers that the other steps look at; a function of its own, so that its loop has the registers to itself */
-__attribute__((noinline)) static int check(struct store *s, uint8_t *directory, size_t dlen, uint8_t *values, size_t vlen) {
+__attribute__((noinline)) static int check(struct store *s, const uint8_t *directory, size_t dlen, const uint8_t *values, size_t vlen) {
     if (dlen < 64) return 0;
-    struct head h = { load32(directory), load32(directory + 4), load32(directory + 8), load32(directory + 12) };
+    struct head h = { load32(directory), load32(directory + 4), load32(directory + 8), load32(directory + 12), load32(directory + 16) };
     if (permitted(h.index, h.id, h.size)) return 0;
     uint32_t maxkeys = max_keys(h.index), keymax = 4 * (h.index % 4 + 1), valuemax = 64u << (2 * (h.index / 4));
-    if (h.count > maxkeys || dlen < 64 + 32 * (size_t)maxkeys || vlen < h.size || !all_zero(directory + 16, 48)) return 0;
+    if (h.count > maxkeys || dlen < 64 + 32 * (size_t)maxkeys || vlen < h.size || !all_zero(directory + 20, 44)) return 0;
     const uint8_t *r = directory + 64;
     struct wide before = { 0, 0 };
     uint32_t len = 0, total = 0, used = 0;
@@ -67,8 +67,8 @@ __attribute__((noinline)) static int check(struct store *s, uint8_t *directory, 
         total += v;
         used += k + v;
     }
-    if (used > h.size || !all_zero(r, 32 * (size_t)(maxkeys - h.count)) || !all_zero(values + total, h.size - total)) return 0;
-    *s = (struct store){ h, keymax, valuemax, maxkeys, total, used, directory + 64, values };
+    if (used > h.size || used != h.used || !all_zero(r, 32 * (size_t)(maxkeys - h.count)) || !all_zero(values + total, h.size - total)) return 0;
+    *s = (struct store){ h, keymax, valuemax, maxkeys, total, (uint8_t *)directory + 64, (uint8_t *)values };
     return 1;
 }
 
@@ -96,6 +96,7 @@ static void raise(struct store *s, uint32_t from, uint32_t by) {
 static void erase(struct store *s, uint32_t slot) {
     uint8_t *r = s->records + 32 * slot;
     uint32_t place = load32(r + 20), v = load32(r + 24);
+    s->h.used -= load32(r + 16) + v;
     memmove(s->values + place, s->values + place + v, s->total - place - v);
     memset(s->values + s->total - v, 0, v);
     memmove(r, r + 32, 32 * (s->h.count - slot - 1));
@@ -118,8 +119,15 @@ static void insert(struct store *s, uint32_t slot, const uint8_t *e, uint32_t le
     save32(r + 24, v);
     save32(r + 28, s->h.id);
     s->h.count++;
+    s->h.used += len + v;
     s->total += v;
     raise(s, slot + 1, v);
+}
+
+/* the numbers that a Store or Delete has changed */
+static void save_counts(const struct store *s, uint8_t *directory) {
+    save32(directory + 12, s->h.count);
+    save32(directory + 16, s->h.used);
 }
 
 static void list(const struct store *s, uint32_t slot, uint8_t *data, uint32_t size) {
@@ -171,11 +179,11 @@ static int step(const uint8_t *e, uint8_t *data, size_t data_len, uint8_t *direc
     if (!held && (retrieve | delete | exist | (store && options & 1))) return 0x87;
     if (held && store && options & 2) return 0x89;
     uint32_t old = held ? len + load32(s.records + 32 * slot + 24) : 0;
-    if (store && ((!held && s.h.count >= s.maxkeys) || (uint64_t)s.used - old + len + amount > s.h.size)) return 0x81;
+    if (store && ((!held && s.h.count >= s.maxkeys) || (uint64_t)s.h.used - old + len + amount > s.h.size)) return 0x81;
     if (store) {
         if (held) erase(&s, slot);
         insert(&s, slot, e, len, data, amount);
-        save32(directory + 12, s.h.count);
+        save_counts(&s, directory);
     } else if (retrieve) {
         uint32_t v = load32(s.records + 32 * slot + 24);
         memcpy(data, s.values + load32(s.records + 32 * slot + 20), v < amount ? v : amount);
@@ -184,7 +192,7 @@ static int step(const uint8_t *e, uint8_t *data, size_t data_len, uint8_t *direc
         list(&s, slot, data, amount);
     } else if (delete) {
         erase(&s, slot);
-        save32(directory + 12, s.h.count);
+        save_counts(&s, directory);
     }
     return 0;
 }
@@ -203,4 +211,10 @@ uint32_t kv_command(const uint8_t *entry, size_t entry_len, uint8_t *completion,
     save16(completion + 12, load16(entry + 2));
     save16(completion + 14, (phase & 1) | status << 1);
     return 0;
+}
+
+struct kv_room kv_used(const uint8_t *directory, size_t directory_len, const uint8_t *values, size_t values_len) {
+    struct store s;
+    if (!check(&s, directory, directory_len, values, values_len)) return (struct kv_room){ 18, 0, 0 };
+    return (struct kv_room){ 0, s.h.used, s.h.count };
 }

@@ -10,6 +10,7 @@ enum { INDEX = 1, KEYS = 1024, SIZE = 65536, VALUE = 32, PAGE = 4096, ROOM = 655
 
 static uint8_t stack[ROOM] __attribute__((aligned(16)));
 static uint8_t directory[64 + 32 * KEYS], values[SIZE], data[PAGE], completion[16], entry[64];
+static struct kv_room room;
 static struct kv_completion reply;
 static struct kv_page_key page_key;
 
@@ -19,6 +20,8 @@ static void format_refused(void) { kv_format(16, 1, SIZE, directory, sizeof dire
 static void command(void) {
     kv_command(entry, 64, completion, 16, data, sizeof data, directory, sizeof directory, values, sizeof values, 1, 1, 1);
 }
+static void used(void) { room = kv_used(directory, sizeof directory, values, sizeof values); }
+static void used_refused(void) { room = kv_used(directory, 64, values, sizeof values); }
 static void build(void) { kv_build(entry, 64, KV_STORE, 1, 1, (const uint8_t *)"0123456789abcdef", 16, VALUE, 0); }
 static void read_completion(void) { reply = kv_read_completion(completion, 16); }
 static void read_page(void) { page_key = kv_read_page(data, sizeof data, 100); }
@@ -79,8 +82,9 @@ int main(void) {
     row("`kv_command`, Delete", deepest(KV_DELETE, 0));
     row("`kv_command`, Exist", deepest(KV_EXIST, 0));
     row("`kv_command`, List", deepest(KV_LIST, PAGE));
+    row("`kv_used`", deeper(depth(used_refused), used));
     row("`kv_build`", depth(build));
     row("`kv_read_completion`", depth(read_completion));
     row("`kv_read_page`", depth(read_page));
-    return page_key.number != 0 || page_key.len != 8 || reply.number != 0;
+    return room.number != 0 || room.keys != KEYS || page_key.number != 0 || page_key.len != 8 || reply.number != 0;
 }

@@ -1,5 +1,5 @@
-/* The module from C: the sample of document 01, its cases P1 to P12, bytes behind the key, a store filled to its last byte and its last slot, and
- * slices without a byte. After each call every byte past the needed part of both slices is compared. */
+/* The module from C: the sample of document 01, its cases P1 to P12, bytes behind the key, the used room, a store filled to its last byte and
+ * its last slot, and slices without a byte. After each call every byte past the needed part of both slices is compared. */
 #include "kv.h"
 
 int printf(const char *, ...);
@@ -139,6 +139,36 @@ static void strict(uint32_t index, const char *key, int len, const int want[5]) 
     }
 }
 
+static int room_is(uint32_t number, uint32_t used, uint32_t keys) {
+    struct kv_room r = kv_used(directory, sizeof directory, values, sizeof values);
+    untouched();
+    return r.number == number && r.used == used && r.keys == keys;
+}
+
+/* The used room after Stores, Stores in the place of others, Deletes and refusals. Then each bit of the head's number turned, alone: 18
+ * from the poll, 06h from a command, and neither writes. */
+static void how_full(void) {
+    static uint8_t before[sizeof directory];
+    format(3, 40);
+    expect("room: empty", room_is(0, 0, 0));
+    expect("room: a key", store(0, "A", 1, 3) == 0 && room_is(0, 4, 1));
+    expect("room: a key without a value", store(0, "AB", 2, 0) == 0 && room_is(0, 6, 2));
+    expect("room: longer in its place", store(0, "A", 1, 30) == 0 && room_is(0, 33, 2));
+    expect("room: shorter in its place", store(0, "A", 1, 1) == 0 && room_is(0, 4, 2));
+    expect("room: a Store refused", store(0, "B", 1, 36) == KV_CAPACITY && room_is(0, 4, 2));
+    expect("room: a Delete refused", command(KV_DELETE, 0, "B", 1, 0, 0) == KV_KEY_ABSENT && room_is(0, 4, 2));
+    expect("room: to the last byte", store(0, "B", 1, 35) == 0 && room_is(0, 40, 3));
+    expect("room: deleted", command(KV_DELETE, 0, "A", 1, 0, 0) == 0 && room_is(0, 38, 2));
+    for (int bit = 0; bit < 32; bit++) {
+        directory[16 + bit / 8] ^= 1 << bit % 8;
+        memcpy(before, directory, sizeof before);
+        expect("room: another number", room_is(KV_ILLEGAL, 0, 0) && command(KV_EXIST, 0, "B", 1, 0, 0) == KV_INTERNAL);
+        expect("room: damaged and left", memcmp(before, directory, sizeof before) == 0);
+        directory[16 + bit / 8] ^= 1 << bit % 8;
+    }
+    expect("room: whole again", room_is(0, 38, 2) && command(KV_EXIST, 0, "B", 1, 0, 0) == 0);
+}
+
 /* keys of four bytes and values of v bytes until the store is full, then all of it taken out again */
 static void fill(uint32_t index, uint32_t size, uint32_t v, uint32_t want) {
     format(index, size);
@@ -154,7 +184,7 @@ static void fill(uint32_t index, uint32_t size, uint32_t v, uint32_t want) {
             break;
         }
     }
-    expect("filled", n == want);
+    expect("filled", n == want && room_is(0, n * (4 + v), n));
     for (uint32_t i = 0; i < n; i += n - 1) { /* the first and the last again, and with more than there is room for */
         uint32_t k = i * 2654435761u, left = size - n * (4 + v), most = 64u << index / 4 * 2;
         memcpy(key, &k, 4);
@@ -203,6 +233,9 @@ static void empty(void) {
     expect("formatting nothing", kv_format(3, 1, 1, 0, 0, 0, 0) == 6 && kv_format(3, 1, 0, 0, 0, 0, 0) == 5);
     expect("formatting no directory", kv_format(3, 1, 1, 0, 0, values, sizeof values) == 6);
     expect("formatting no values", kv_format(3, 1, 1, directory, sizeof directory, 0, 0) == 6);
+    expect("polling nothing", kv_used(0, 0, 0, 0).number == KV_ILLEGAL);
+    expect("polling no directory", kv_used(0, 0, values, sizeof values).number == KV_ILLEGAL);
+    expect("polling no values", kv_used(directory, sizeof directory, 0, 0).number == KV_ILLEGAL);
     untouched();
     expect("what was stored is held", command(KV_RETRIEVE, 0, "A", 1, 1, 1) == 0 && dword0() == 1);
 }
@@ -214,6 +247,7 @@ int main(void) {
     strict(3, "0123456789abcde", 15, (const int[5]){0x00, 0x87, 0x00, 0x87, 0x87});
     strict(3, "", 0, (const int[5]){0x86, 0x86, 0x00, 0x86, 0x86});
     strict(0, "01234", 5, (const int[5]){0x86, 0x86, 0x86, 0x86, 0x86}); /* above the format's key length */
+    how_full();
     fill(0, 65536, 60, 1024); /* the last slot and the last byte */
     fill(3, 65536, 0, 1024);  /* the last slot */
     fill(15, 1608, 100, 15);  /* room for a sixteenth key, but not for its value */

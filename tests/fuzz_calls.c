@@ -10,7 +10,7 @@ struct model_store *held = stores, *seen = stores + 1;
 int intact;
 size_t directory_len, values_len;
 uint64_t seed = 1, state, calls;
-static uint64_t statuses[256], numbers[14], nulls;
+static uint64_t statuses[256], numbers[19], nulls;
 static uint32_t fullest[4], longest; /* the most keys held, by q, and the most keys on a page */
 static const char *doing = "";
 
@@ -60,7 +60,7 @@ static void bytes(const char *what, const uint8_t *got, const uint8_t *expected,
 
 static uint32_t numbered(uint32_t got, uint32_t expected) {
     number("number", got, expected);
-    if (got > 13) differ("number above 13", got, expected);
+    if (got > 18) differ("number above 18", got, expected);
     numbers[got]++;
     return got;
 }
@@ -121,6 +121,22 @@ uint32_t command(size_t entry_len, size_t completion_len, size_t room, size_t dl
     return status;
 }
 
+uint32_t used(size_t dlen, size_t vlen) {
+    calls++;
+    doing = "kv_used";
+    struct kv_room a = kv_used(lent(real.directory, dlen), dlen, lent(real.values, vlen), vlen);
+    struct kv_room b = model_room(model.directory, dlen, model.values, vlen);
+    called(a.number, b.number);
+    number("used room", a.used, b.used);
+    number("keys", a.keys, b.keys);
+    if (intact && dlen == directory_len && vlen == values_len) { /* by the history */
+        number("polled", a.number, 0);
+        number("used room by the history", a.used, model_used(held));
+        number("keys by the history", a.keys, held->count);
+    }
+    return a.number;
+}
+
 uint32_t build(size_t entry_len, uint8_t opcode, uint32_t nsid, const uint8_t *key, size_t key_len, uint32_t dword10,
                uint8_t options) {
     uint16_t cid = next();
@@ -170,7 +186,8 @@ int report_calls(void) {
         missing += statuses[all[i]] == 0;
     }
     printf("\nnumbers:");
-    for (int i = 0; i < 14; i++) {
+    for (int i = 0; i < 19; i++) {
+        if (i > 13 && i < 18) continue; /* numbers that no call has */
         printf(" %d %llu", i, (unsigned long long)numbers[i]);
         missing += numbers[i] == 0;
     }

@@ -49,10 +49,10 @@ static void damage(void) {
     uint8_t *d = real.directory, *v = real.values;
     uint32_t n = held->count, max = model_max_keys(held->index), needed = 64 + 32 * max, used = model_used(held), sum = 0;
     uint32_t live = 64 + 32 * (n < max ? n + 1 : n), i = n > 0 ? below(n) : 0, id = next();
-    uint32_t key_len = n > 0 ? held->pairs[i].key_len : 0, value_max = model_value_max(held->index);
+    uint32_t key_len = n > 0 ? held->pairs[i].key_len : 0, value_max = model_value_max(held->index), grown;
     uint8_t *record = d + 64 + 32 * i, *last = d + 64 + 32 * (n > 0 ? n - 1 : 0), swap[32];
     for (uint32_t j = 0; j < n; j++) sum += held->pairs[j].value_len;
-    switch (below(22)) {
+    switch (below(23)) {
     case 0: d[below(live)] ^= 1 << below(8); break;
     case 1: d[below(64)] ^= 1 << below(8); break;
     case 2: d[below(needed)] = next(); break;
@@ -81,12 +81,20 @@ static void damage(void) {
         put32(d, id);
         for (uint32_t j = 0; j < n; j++) put32(d + 64 + 32 * j + 28, id);
         break;
-    case 15: if (n > 0) memset(last, 0, 32), put32(d + 12, n - 1); break; /* legal if its value was empty */
+    case 15: /* legal if its value was empty */
+        if (n == 0) break;
+        memset(last, 0, 32);
+        put32(d + 12, n - 1);
+        put32(d + 16, used - held->pairs[n - 1].key_len);
+        break;
     case 16: /* legal while there is room, up to value max */
-        if (n > 0) put32(last + 24, one_in(2) ? held->pairs[n - 1].value_len + below(4) : value_max + below(2));
+        if (n == 0) break;
+        grown = one_in(2) ? held->pairs[n - 1].value_len + below(4) : value_max + below(2);
+        put32(last + 24, grown);
+        put32(d + 16, used - held->pairs[n - 1].value_len + grown);
         break;
     case 17: if (n > 0 && key_len < 16) record[key_len + below(16 - key_len)] = 1; break;
-    case 18: if (n > 0) record[16]++; break; /* one zero byte more in the key: legal if order, room and format allow it */
+    case 18: if (n > 0) record[16]++, put32(d + 16, used + 1); break; /* one zero byte more in the key: legal if order, room and format allow it */
     case 19: /* bytes past the needed part: legal */
         d[needed + below(SPARE)] = next();
         v[held->size + below(SPARE)] = next();
@@ -95,6 +103,7 @@ static void damage(void) {
         if (one_in(2)) d[needed - 1] ^= 1;
         else v[held->size - 1] ^= 1;
         break;
+    case 21: put32(d + 16, near(used)); break; /* the sum alone */
     default:
         if (one_in(2)) memset(d + below(live), 0, 1 + below(32));
         else memset(v + (sum < held->size ? sum : 0), below(2), 1 + below(8));
@@ -108,6 +117,7 @@ void damaged(void) {
     saved = real;
     intact = 0;
     for (uint32_t i = 1 + (one_in(4) ? below(3) : 0); i > 0; i--) damage();
+    if (one_in(2)) used(directory_len, values_len);
     for (uint32_t i = 1 + below(4); i > 0; i--) any_command();
     if (one_in(10)) bad_format();
     if (!full && one_in(10)) format(held->index, held->id, held->size, directory_len, values_len);

@@ -117,6 +117,7 @@ static void lay(const struct model_store *s, uint8_t *directory, uint8_t *values
     put32(directory + 4, s->index);
     put32(directory + 8, s->size);
     put32(directory + 12, s->count);
+    put32(directory + 16, model_used(s));
     uint32_t place = 0;
     for (uint32_t i = 0; i < s->count; i++) {
         const struct model_pair *p = s->pairs + i;
@@ -182,6 +183,17 @@ uint32_t model_format(uint32_t index, uint32_t id, uint64_t size, uint8_t *direc
     empty.count = 0;
     lay(&empty, directory, values);
     return 0;
+}
+
+/* What the poll gives, by the map that stands in the memory: the head's own sum is compared with the map's when that is read. */
+struct kv_room model_room(const uint8_t *directory, size_t directory_len, const uint8_t *values, size_t values_len) {
+    static struct model_store s;
+    struct kv_room room = {18, 0, 0};
+    if (!model_read(&s, directory, directory_len, values, values_len)) return room;
+    room.number = 0;
+    room.used = model_used(&s);
+    room.keys = s.count;
+    return room;
 }
 
 /* ---- one command */

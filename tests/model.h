@@ -37,6 +37,7 @@ uint32_t model_command(struct model_store *s, const uint8_t *entry, size_t entry
                        uint16_t phase);
 uint32_t model_build(uint8_t *entry, size_t entry_len, uint8_t opcode, uint16_t cid, uint32_t nsid, const uint8_t *key,
                      size_t key_len, uint32_t dword10, uint8_t options);
+struct kv_room model_room(const uint8_t *directory, size_t directory_len, const uint8_t *values, size_t values_len);
 struct kv_completion model_read_completion(const uint8_t *completion, size_t completion_len);
 struct kv_page_key model_read_page(const uint8_t *page, size_t page_len, uint32_t ordinal);
 

@@ -1,9 +1,9 @@
-// kv.h from C++: it compiles, all five names link as C has them, and the structs come back as in C.
+// kv.h from C++: it compiles, all six names link as C has them, and the structs come back as in C.
 #include "kv.h"
 
 extern "C" int printf(const char *, ...);
 
-static_assert(sizeof(kv_completion) == 20 && sizeof(kv_page_key) == 28, "the structs have one layout in both languages");
+static_assert(sizeof(kv_room) == 12 && sizeof(kv_completion) == 20 && sizeof(kv_page_key) == 28, "the structs have one layout in both languages");
 
 static uint8_t directory[64 + 32 * 16], values[8], entry[64], completion[16], data[24];
 
@@ -15,10 +15,11 @@ extern "C" int main() { // freestanding, where `main` is a name like any other
         number |= kv_command(entry, sizeof entry, completion, sizeof completion, data, sizeof data, directory, sizeof directory,
                              values, sizeof values, 1, 1, 1);
     }
+    kv_room room = kv_used(directory, sizeof directory, values, sizeof values);
     kv_completion reply = kv_read_completion(completion, sizeof completion);
     kv_page_key page = kv_read_page(data, sizeof data, 0);
     bool ok = number == KV_DONE && reply.number == KV_DONE && reply.status == KV_SUCCESS && reply.cid == 1 && page.number == KV_DONE
-        && page.count == 1 && page.len == 1 && page.key[0] == 0x41;
+        && page.count == 1 && page.len == 1 && page.key[0] == 0x41 && room.number == KV_DONE && room.used == 1 && room.keys == 1;
     printf("kv.h from C++: %s\n", ok ? "passed" : "FAILED");
     return ok ? 0 : 1;
 }

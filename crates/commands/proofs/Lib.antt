@@ -2,4 +2,3 @@
 pub mod StepLaws
 pub mod AnswerLaws
 pub mod CommandLaws
-pub mod HistoryLaws

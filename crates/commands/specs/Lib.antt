@@ -3,4 +3,3 @@ pub mod Answer
 pub mod Formatting
 pub mod Command
 pub mod Ruled
-pub mod History

@@ -24,6 +24,5 @@ pub record Ruled (c : Command) (k : Checked) (f : Found) (n : ℕ) (d v : List �
   pub legal : Legal k d v
   pub looked : Looked f (keys (pairsOf (memory d v)))
   pub key : foundKey f ≡ keyOf c
-  pub sixteen : length (f .key) ≡ 16
   pub given : length (c .key) ≡ 16
   pub status : statusOf true (namespaceOf (memory d v)) c n ≡ 0

@@ -43,7 +43,7 @@ fn carry_out(
     let u = Stock {
         held: f.held,
         old,
-        used: k.used,
+        used: k.label.used,
         count: k.label.count,
         maxkeys: k.format.maxkeys,
         size: k.label.size,

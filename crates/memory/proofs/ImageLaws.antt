@@ -15,7 +15,7 @@ use Rattle.octets.proofs.NumberLaws.{number-bytes}
 use Rattle.octets.proofs.ZeroLaws.{same-self, same-true}
 use Rattle.store.specs.declared.namespaces.Label.{Label}
 use Rattle.store.specs.Formats.{slots}
-use Rattle.store.specs.Maps.{Pair, lookup}
+use Rattle.store.specs.Maps.{Pair, lookup, used}
 use Rattle.store.specs.Namespace.{Namespace, withPairs}
 use Rattle.store.specs.Records.{recordsPart, valuesPart, pairsIn}
 use Rattle.store.specs.Parts.{labelled, Holds as Parts}
@@ -62,6 +62,7 @@ module _ (s : Namespace) where
         number-bytes 4 (s .index) (omega (arith, w .permits .index)),
         number-bytes 4 (s .size) (omega (arith, w .permits .size-high)),
         number-bytes 4 (length (s .pairs)) (omega (arith, w .count)),
+        number-bytes 4 (used (s .pairs)) (omega (arith, w .room, w .permits .size-high)),
       )
 
   records-back : (t : List ℕ) → Within s → recordsIn (labelOf s) (directoryOf s ++ t) ≡ records
@@ -170,15 +171,16 @@ module _ {s : Namespace} {m : Memory} (h : Holds s m) where
       let r : recordsIn (labelOf s) d ≡ records s = ap (recordsIn (labelOf s)) split ∙ records-back s (drop n d) (h .within) in
       record { within = h .within; holds = held (labelOf s) (h .within) r (h .values) }
 
--- the other way: a head in front of parts that are legal
+-- the other way: a head that says the used room, in front of parts that are legal
 pub parts-hold : (h : Label) (d v : List ℕ) → take 64 d ≡ directoryHead h
-    → (let m = pairsIn (h .count) (recordsIn h d) (valuesIn h v) in Legal h m (recordsIn h d) (valuesIn h v) → Holds (labelled h m) (memory d v))
+    → (let m = pairsIn (h .count) (recordsIn h d) (valuesIn h v) in
+    Legal h m (recordsIn h d) (valuesIn h v) → h .used ≡ used m → Holds (labelled h m) (memory d v))
 unfolding directoryOf valuesOf part
-parts-hold h d v e l =
+parts-hold h d v e l u =
     let s = recordsIn h d in
     let n : length (pairsIn (h .count) s (valuesIn h v)) ≡ h .count = length-pairs (h .count) s (valuesIn h v) in
     record {
       within = l .within;
-      directory = take-add 64 (32 * slots (h .index)) d ∙ rw (n, e, ← l .holds .records);
+      directory = take-add 64 (32 * slots (h .index)) d ∙ rw (n, ← u, e, ← l .holds .records);
       values = l .holds .values;
     }

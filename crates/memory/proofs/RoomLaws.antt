@@ -2,12 +2,12 @@
 use mathlib.Core.Path.{_≡_, refl, sym, ap, _∙_}
 use mathlib.Core.Bool.{true}
 use mathlib.Core.List.{List, []}
-use Prim.Native.Nat.{ℕ, _≤_, _<_}
+use Prim.Native.Nat.{ℕ, _-_, _≤_, _<_}
 use native.Mathlib.Omega.{arith}
 use lib.ListN.{length, length-take}
 use Rattle.octets.proofs.TestLaws.{known, holds, fails}
 use Rattle.store.specs.declared.finds.Found.{Found}
-use Rattle.store.specs.Maps.{Pair, pair, keys, present, valueOf, used, heldRoom}
+use Rattle.store.specs.Maps.{Pair, pair, keys, erase, present, valueOf, used, heldRoom}
 use Rattle.store.specs.Finds.{found, foundKey}
 use Rattle.store.specs.Verbs.{pairAt}
 use Rattle.store.proofs.CountLaws.{erase-used}
@@ -30,12 +30,12 @@ module _ {f : Found} (m : List Pair) (l : Looked f (keys m)) where
     value-is = rw (l .slot) (sym (value-held (foundKey f) m (pair [] []) (sym (l .held) ∙ h)))
 
 -- a key found in the part that k names is found in the map
-pub looked-in : {k : Checked} {f : Found} {d v : List ℕ} → Legal k d v → (key : List ℕ) (n : ℕ) → n ≤ 16 → f ≡ found key n (keysAt k d)
+pub looked-in : {k : Checked} {f : Found} {d v : List ℕ} → Legal k d v → (key : List ℕ) (n : ℕ) → length key ≡ 16 → n ≤ 16 → f ≡ found key n (keysAt k d)
     → Looked f (keys (pairsOf (memory d v)))
-looked-in g key n h e = rw (e, keys-are g) (record { held = refl; slot = refl; short = h })
+looked-in g key n l h e = rw (e, keys-are g) (record { held = refl; slot = refl; short = h; sixteen = l })
 
 -- in legal memory what the slot says is what the map says, and the sum has it in it
-module _ {k : Checked} {f : Found} {d v : List ℕ} (g : Legal k d v) (l : Looked f (keys (pairsOf (memory d v)))) (sixteen : length (f .key) ≡ 16) where
+module _ {k : Checked} {f : Found} {d v : List ℕ} (g : Legal k d v) (l : Looked f (keys (pairsOf (memory d v)))) where
   abbrev m : List Pair
   m = pairsOf (memory d v)
 
@@ -46,13 +46,20 @@ module _ {k : Checked} {f : Found} {d v : List ℕ} (g : Legal k d v) (l : Looke
         | fails e ↦ rw (same, e)
         | holds e ↦
             let n = value-length-at (part-is g .holds) (f .slot) (slot-lt m l e) ∙ ap length (value-is m l e) in
-            rw (same, e) (omega (arith, n, length-take (f .len) (f .key), l .short))
+            rw (same, e) (omega (arith, n, length-take (f .len) (f .key), l))
       ]
 
-  pub room-sum : roomAt k f d ≤ k .used
-  room-sum =
-      let sum : k .used ≡ used m = rw (g .is) in
-      omega (arith, sum, room-is, erase-used (foundKey f) m)
+  sum-is : k .label .used ≡ used m
+  sum-is = rw (g .is)
+
+  -- what the sum is without it
+  pub sum-without : k .label .used - roomAt k f d ≡ used (erase (foundKey f) m)
+  sum-without = omega (arith, sum-is, room-is, erase-used (foundKey f) m)
 
   pub can-weigh : CanWeigh k f d
-  can-weigh = record { look = g .look; slot = λ h. omega (arith, slot-lt m l h, count-is g) }
+  can-weigh =
+      record {
+        look = g .look;
+        slot = λ h. omega (arith, slot-lt m l h, count-is g);
+        sum = omega (arith, sum-is, room-is, erase-used (foundKey f) m);
+      }

@@ -11,7 +11,7 @@ use Rattle.store.specs.declared.namespaces.Label.{Label}
 use Rattle.store.specs.declared.formats.Format.{Format}
 use Rattle.store.specs.declared.finds.Found.{Found}
 use Rattle.store.specs.Formats.{formatOf}
-use Rattle.store.specs.Maps.{keys, values, used, insert}
+use Rattle.store.specs.Maps.{keys, values, insert}
 use Rattle.store.specs.Namespace.{Namespace, withPairs, within}
 use Rattle.store.specs.Records.{valueLength}
 use Rattle.store.specs.Finds.{rank, hasKey, keysIn, foundKey, KeysFit}
@@ -36,10 +36,10 @@ measured i id n d v =
 -- ---- the check
 
 abbrev pub noLabel : Label
-noLabel = record { id = 0; index = 0; size = 0; count = 0 }
+noLabel = record { id = 0; index = 0; size = 0; count = 0; used = 0 }
 
 abbrev pub notLegal : Checked
-notLegal = record { ok = false; label = noLabel; format = noFormat; start = 0; end = 0; total = 0; used = 0 }
+notLegal = record { ok = false; label = noLabel; format = noFormat; start = 0; end = 0; total = 0 }
 
 abbrev pub numbersOf : Namespace → Checked
 numbersOf s =
@@ -50,7 +50,6 @@ numbersOf s =
       start = 64;
       end = needed (s .index);
       total = length (values (s .pairs));
-      used = used (s .pairs);
     }
 
 unfoldable pub checked : Memory → Checked
@@ -63,6 +62,7 @@ pub record Looked (f : Found) (ks : List Key) : Type 0 where
   pub held : f .held ≡ hasKey (foundKey f) ks
   pub slot : f .slot ≡ rank (foundKey f) ks
   pub short : f .len ≤ 16
+  pub sixteen : length (f .key) ≡ 16
 
 -- the parts that k names, and the keys in them
 abbrev pub recordsAt : Checked → List ℕ → List ℕ
@@ -113,6 +113,7 @@ roomAt k f d = cond (f .held) (f .len + valueLength (drop (32 * f .slot) (record
 pub record CanWeigh (k : Checked) (f : Found) (d : List ℕ) : Type 0 where
   pub look : CanLook k d
   pub slot : f .held ≡ true → f .slot < k .label .count
+  pub sum : roomAt k f d ≤ k .label .used
 
 pub record CanHand (k : Checked) (f : Found) (n : ℕ) (d v b : List ℕ) : Type 0 where
   pub erases : CanErase k f d v
@@ -122,7 +123,6 @@ pub record CanHand (k : Checked) (f : Found) (n : ℕ) (d v b : List ℕ) : Type
 pub record CanPut (k : Checked) (f : Found) (x d v : List ℕ) : Type 0 where
   pub legal : Legal k d v
   pub looked : Looked f (keys (pairsOf (memory d v)))
-  pub sixteen : length (f .key) ≡ 16
   pub within : within (withPairs (namespaceOf (memory d v)) (insert (foundKey f) x (pairsOf (memory d v)))) ≡ true
 
 -- e is where the records of a format end, and slices of lengths d and v have room for them and for n bytes of values

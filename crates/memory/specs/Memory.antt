@@ -1,6 +1,6 @@
 -- The two slices whole: the image of a namespace in them, what stands in any bytes, and legal memory. The arrangement is the team's.
 -- Directory: a head of two halves of 32 bytes, the second one zero, then the records part. Value slice: the values part.
--- Half: namespace id 0-3, format index 4-7, size 8-11, key count 12-15, zeros to 31. Assumes nothing.
+-- Half: namespace id 0-3, format index 4-7, size 8-11, key count 12-15, used room 16-19, zeros to 31. Assumes nothing.
 use mathlib.Core.Bool.{Bool, _||_}
 use mathlib.Core.List.{List, [], _∷_, _++_}
 use Prim.Native.Nat.{ℕ, _+_, _*_}
@@ -10,7 +10,7 @@ use Rattle.octets.specs.Octets.{part, put, number, bytes, zeros, same}
 use Rattle.octets.specs.Tests.{all, Row, row}
 use Rattle.store.specs.declared.namespaces.Label.{Label}
 use Rattle.store.specs.Formats.{slots}
-use Rattle.store.specs.Maps.{Pair}
+use Rattle.store.specs.Maps.{Pair, used}
 use Rattle.store.specs.Namespace.{Namespace, withPairs, permitSteps, within}
 use Rattle.store.specs.Records.{recordsPart, valuesPart, pairsIn}
 use Rattle.store.specs.Parts.{labelled}
@@ -33,10 +33,10 @@ formatSteps i id n d v = permitSteps i id n ++ (row (ltb d (needed i) || ltb v n
 -- ---- the image
 
 unfoldable pub halfOf : Label → List ℕ
-halfOf h = bytes 4 (h .id) ++ bytes 4 (h .index) ++ bytes 4 (h .size) ++ bytes 4 (h .count) ++ zeros 16
+halfOf h = bytes 4 (h .id) ++ bytes 4 (h .index) ++ bytes 4 (h .size) ++ bytes 4 (h .count) ++ bytes 4 (h .used) ++ zeros 12
 
 abbrev pub labelOf : Namespace → Label
-labelOf s = record { id = s .id; index = s .index; size = s .size; count = length (s .pairs) }
+labelOf s = record { id = s .id; index = s .index; size = s .size; count = length (s .pairs); used = used (s .pairs) }
 
 abbrev pub directoryHead : Label → List ℕ
 directoryHead h = halfOf h ++ zeros 32
@@ -54,7 +54,14 @@ imageOver s m = memory (put 0 (directoryOf s) (m .directory)) (put 0 (valuesOf s
 -- ---- what stands in any bytes, asking nothing
 
 unfoldable pub labelIn : List ℕ → Label
-labelIn d = record { id = number (part 0 4 d); index = number (part 4 4 d); size = number (part 8 4 d); count = number (part 12 4 d) }
+labelIn d =
+    record {
+      id = number (part 0 4 d);
+      index = number (part 4 4 d);
+      size = number (part 8 4 d);
+      count = number (part 12 4 d);
+      used = number (part 16 4 d);
+    }
 
 -- the parts that a label names
 abbrev pub recordsIn : Label → List ℕ → List ℕ

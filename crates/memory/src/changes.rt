@@ -1,8 +1,9 @@
 // The map changed: the empty image written, a pair put, a pair erased.
 use crate::checks::Checked;
 use crate::labels::HEAD;
-use crate::labels::write_count;
+use crate::labels::write_counts;
 use crate::labels::write_directory_head;
+use crate::looks::held_room;
 use octets::runs::clear;
 use store::finds::Found;
 use store::namespaces::Label;
@@ -10,12 +11,13 @@ use store::verbs::insert;
 use store::verbs::remove;
 use store::verbs::replace;
 ghost use mathlib.Core.Path.{_≡_};
+ghost use Prim.Native.Nat.{_-_};
 ghost use lib.ListN.{length};
 ghost use Rattle.store.specs.Maps.{insert, erase};
 ghost use Rattle.store.specs.Namespace.{fresh};
 ghost use Rattle.store.specs.Finds.{foundKey};
 ghost use Rattle.memory.specs.Memory.{memory, imageOver, imageWith};
-ghost use Rattle.memory.specs.Checks.{CanEmpty, CanPut, CanErase};
+ghost use Rattle.memory.specs.Checks.{roomAt, CanEmpty, CanWeigh, CanPut, CanErase};
 
 // The records reach up to `end`.
 pub fn write_empty(
@@ -38,10 +40,19 @@ pub fn write_empty(
             index,
             size,
             count: 0,
+            used: 0,
         },
     );
     clear(directory, HEAD, end - HEAD);
     clear(values, 0, size as usize);
+}
+
+// The used room without the pair that the key looked up holds.
+fn used_without(directory: &[u8], k: Checked, f: Found) -> u32
+    requires { ⌜ CanWeigh k f (now directory) ⌝ }
+    ensures { λ r. ⌜ r ≡ k .label .used - roomAt k f (now (directory .entry)) ⌝ }
+{
+    k.label.used - held_room(directory, k, f) as u32
 }
 
 // The key that was looked up is given a value, its first or another one.
@@ -54,34 +65,34 @@ pub fn put(directory: &mut [u8], values: &mut [u8], k: Checked, f: Found, value:
     let start = k.start;
     let end = k.end;
     let size = k.label.size as usize;
-    let id = k.label.id;
-    let count = k.label.count;
     let key = f.key;
     let len = f.len as usize;
+    let used = used_without(directory, k, f) + (f.len as u32) + (value.len() as u32);
     if f.held {
         replace(
             &mut directory[start..end],
             &mut values[..size],
-            id,
-            count,
+            k.label.id,
+            k.label.count,
             k.total,
             f.slot,
             &key[..len],
             value,
         );
+        write_counts(directory, k.label.count, used);
         return;
     }
     insert(
         &mut directory[start..end],
         &mut values[..size],
-        id,
-        count,
+        k.label.id,
+        k.label.count,
         k.total,
         f.slot,
         &key[..len],
         value,
     );
-    write_count(directory, count + 1);
+    write_counts(directory, k.label.count + 1, used);
 }
 
 pub fn erase(directory: &mut [u8], values: &mut [u8], k: Checked, f: Found)
@@ -93,15 +104,14 @@ pub fn erase(directory: &mut [u8], values: &mut [u8], k: Checked, f: Found)
     let start = k.start;
     let end = k.end;
     let size = k.label.size as usize;
-    let id = k.label.id;
-    let count = k.label.count;
+    let used = used_without(directory, k, f);
     remove(
         &mut directory[start..end],
         &mut values[..size],
-        id,
-        count,
+        k.label.id,
+        k.label.count,
         k.total,
         f.slot,
     );
-    write_count(directory, count - 1);
+    write_counts(directory, k.label.count - 1, used);
 }

@@ -11,8 +11,8 @@ ghost use mathlib.Core.Path.{_≡_};
 ghost use Rattle.memory.specs.Memory.{memory};
 ghost use Rattle.memory.specs.Checks.{checked};
 
-// The namespace's numbers, where its records lie in the directory, and its sums, so that nothing is found twice. Of memory that is not
-// legal all is 0.
+// The namespace's numbers, where its records lie in the directory, and the sum of the value lengths, so that nothing is found twice. Of
+// memory that is not legal all is 0.
 pub struct Checked {
     pub ok: bool,
     pub label: Label,
@@ -20,7 +20,6 @@ pub struct Checked {
     pub start: usize,
     pub end: usize,
     pub total: u32,
-    pub used: u32,
 }
 
 const NOT_LEGAL: Checked = Checked {
@@ -30,12 +29,12 @@ const NOT_LEGAL: Checked = Checked {
         index: 0,
         size: 0,
         count: 0,
+        used: 0,
     },
     format: NO_FORMAT,
     start: 0,
     end: 0,
     total: 0,
-    used: 0,
 };
 
 // Every content and every length of the slices has its answer. Bytes past the needed part are not read.
@@ -56,14 +55,14 @@ pub fn check(directory: &[u8], values: &[u8]) -> Checked
     if m.number != 0 {
         return NOT_LEGAL;
     }
-    if !all_zero(&directory[16..HEAD]) {
+    if !all_zero(&directory[20..HEAD]) {
         return NOT_LEGAL;
     }
     let end = m.end;
     let size = label.size as usize;
     let format = m.format;
     let sums = check_part(&directory[HEAD..end], &values[..size], label, format);
-    if !sums.ok {
+    if !sums.ok | (sums.used != label.used) {
         return NOT_LEGAL;
     }
     Checked {
@@ -73,6 +72,5 @@ pub fn check(directory: &[u8], values: &[u8]) -> Checked
         start: HEAD,
         end,
         total: sums.total,
-        used: sums.used,
     }
 }

@@ -4,6 +4,7 @@ use octets::words::read32;
 use octets::words::write32;
 use store::namespaces::Label;
 ghost use mathlib.Core.Path.{_≡_};
+ghost use mathlib.Core.List.{_++_};
 ghost use Prim.Native.Nat.{_≤_};
 ghost use lib.ListN.{length};
 ghost use Rattle.octets.specs.Octets.{put, bytes};
@@ -21,6 +22,7 @@ pub fn read_label(directory: &[u8]) -> Label
         index: read32(directory, 4),
         size: read32(directory, 8),
         count: read32(directory, 12),
+        used: read32(directory, 16),
     }
 }
 
@@ -32,12 +34,15 @@ pub fn write_directory_head(directory: &mut [u8], label: Label)
     write32(directory, 4, label.index);
     write32(directory, 8, label.size);
     write32(directory, 12, label.count);
-    clear(directory, 16, 48);
+    write32(directory, 16, label.used);
+    clear(directory, 20, 44);
 }
 
-pub fn write_count(directory: &mut [u8], count: u32)
+// Of these numbers alone a command makes others.
+pub fn write_counts(directory: &mut [u8], count: u32, used: u32)
     requires { ⌜ 64 ≤ length (now directory) ⌝ }
-    ensures { λ _. ⌜ now (directory .exit) ≡ put 12 (bytes 4 count) (now (directory .entry)) ⌝ }
+    ensures { λ _. ⌜ now (directory .exit) ≡ put 12 (bytes 4 count ++ bytes 4 used) (now (directory .entry)) ⌝ }
 {
     write32(directory, 12, count);
+    write32(directory, 16, used);
 }

@@ -1,10 +1,13 @@
 // The device's calls, in the order of `include/kv.h`.
 use commands::commands::command;
 use commands::formatting::format;
+use room::gauge::Room;
+use room::gauge::used_room;
 ghost use mathlib.Core.Path.{_≡_};
 ghost use Rattle.memory.specs.Memory.{memory};
 ghost use Rattle.commands.specs.Formatting.{formatted, format};
 ghost use Rattle.commands.specs.Command.{post, lent, outcome, command};
+ghost use Rattle.room.specs.Room.{room};
 
 #[no_mangle]
 pub extern "C" fn kv_format(
@@ -47,4 +50,11 @@ pub extern "C" fn kv_command(
         queue,
         phase,
     )
+}
+
+#[no_mangle]
+pub extern "C" fn kv_used(directory: &[u8], values: &[u8]) -> Room
+    ensures { λ r. ⌜ r ≡ room (memory (now (directory .entry)) (now (values .entry))) ⌝ }
+{
+    used_room(directory, values)
 }

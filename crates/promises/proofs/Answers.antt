@@ -23,9 +23,9 @@ use Rattle.commands.specs.Steps.{steps, statusOf}
 use Rattle.commands.specs.Answer.{answer}
 use Rattle.commands.specs.Formatting.{format}
 use Rattle.commands.specs.Command.{Post, post, respond, serve, command}
-use Rattle.commands.specs.History.{Call, commanding, run, succeeded}
+use Rattle.module.specs.History.{Call, commanding, run, succeeded}
 use Rattle.commands.proofs.AnswerLaws.{answer-status, unrefused}
-use Rattle.commands.proofs.HistoryLaws.{call-number, call-status, call-dword0, call-buffer}
+use Rattle.module.proofs.HistoryLaws.{call-number, call-status, call-dword0, call-buffer}
 use Rattle.promises.specs.Histories.{Start, begun, memoryAfter, storedAfter}
 use Rattle.promises.specs.Requests.{Request, call, sends, bothBits, refusal, Proper, Gives, Answered}
 use Rattle.promises.specs.Retrieves.{valueIn, Since}

@@ -10,11 +10,11 @@ use Rattle.wire.specs.Entry.{readCommand}
 use Rattle.memory.specs.Memory.{Memory, namespaceOf, legal}
 use Rattle.commands.specs.Steps.{statusOf}
 use Rattle.commands.specs.Command.{Post, respond, serve, Outcome, outcome}
-use Rattle.commands.specs.History.{commanding, lend, run}
+use Rattle.module.specs.History.{commanding, lend, run}
 use Rattle.commands.proofs.StepLaws.{status-byte}
 use Rattle.commands.proofs.AnswerLaws.{answer-status}
 use Rattle.commands.proofs.CommandLaws.{command-0, command-1, command-2}
-use Rattle.commands.proofs.HistoryLaws.{status-back}
+use Rattle.module.proofs.HistoryLaws.{status-back}
 use Rattle.promises.specs.Calls.{status}
 
 module _ (m : Memory) (p : Post) (e c b : List ℕ) where

@@ -11,7 +11,7 @@ use Rattle.memory.proofs.ImageLaws.{Holds, holds-back, holds-legal}
 use Rattle.commands.specs.Steps.{statusOf}
 use Rattle.commands.specs.Answer.{answer}
 use Rattle.commands.specs.Command.{Outcome}
-use Rattle.commands.specs.History.{Call, lend, run, leaves, stored}
+use Rattle.module.specs.History.{Call, lend, run, leaves, stored}
 use Rattle.commands.proofs.AnswerLaws.{answer-status}
 use Rattle.commands.proofs.CommandLaws.{serve-is}
 use Rattle.promises.specs.Histories.{Start, begun, memoryAfter, storedAfter, neverOn, never, touches, changes}

@@ -15,7 +15,7 @@ use Rattle.commands.specs.Steps.{steps, statusOf}
 use Rattle.commands.specs.Answer.{answer}
 use Rattle.commands.specs.Formatting.{format}
 use Rattle.commands.specs.Command.{post, respond, serve, command}
-use Rattle.commands.specs.History.{Call, formatting, commanding}
+use Rattle.module.specs.History.{Call, formatting, commanding, polling}
 use Rattle.promises.specs.Histories.{Start, begun}
 use Rattle.promises.specs.Requests.{Request, call, refusal}
 
@@ -68,6 +68,6 @@ exist k = request 0x14 k 0 []
 abbrev pub list : Key → Request
 list k = request 0x06 k 44 (replicate 50 0xff)
 
--- refused: by number 1, by number 3, and a Store by step j
+-- refused: by number 1, by number 3, and a Store by step j; and a poll
 abbrev pub vain : List Call
-vain = commanding (post 0 0 0) [] [] [] ∷ formatting 16 1 64 ∷ call (store B (replicate 64 0)) ∷ []
+vain = commanding (post 0 0 0) [] [] [] ∷ formatting 16 1 64 ∷ polling ∷ call (store B (replicate 64 0)) ∷ []

@@ -12,10 +12,10 @@ use Rattle.store.specs.Namespace.{Namespace, fresh}
 use Rattle.store.proofs.MapLaws.{map-ext}
 use Rattle.store.proofs.NamespaceLaws.{true-within}
 use Rattle.commands.specs.Formatting.{format}
-use Rattle.commands.specs.History.{Call, formatting, commanding, run, leaves, told, stored}
+use Rattle.module.specs.History.{Call, formatting, commanding, polling, run, leaves, told, stored}
 use Rattle.memory.proofs.ImageLaws.{Holds}
 use Rattle.commands.proofs.CommandLaws.{Kept, format-holds, format-refused}
-use Rattle.commands.proofs.HistoryLaws.{told-call, command-kept, format-kept}
+use Rattle.module.proofs.HistoryLaws.{told-call, command-kept, format-kept}
 use Rattle.promises.specs.Histories.{Start, begun, memoryAfter, storedAfter, Shows, SamePast, SameNeeded, SamePairs, never, formats}
 use Rattle.promises.specs.Requests.{call}
 use Rattle.promises.proofs.RequestLaws.{holds-after}
@@ -35,6 +35,7 @@ stays : (s : Namespace) (m : Memory) (x : Call) → Holds s m → not (formats x
     → Kept (s .index) (s .size) m (run m x .after .memory) × (told s x (run m x) .index ≡ s .index) × (told s x (run m x) .size ≡ s .size)
 unfolding format
 stays s m (commanding p e c b) h n = (command-kept s m p e c b h, refl, refl)
+stays s m polling h n = (record { directory = refl; values = refl }, refl, refl)
 stays s m (formatting i id n) h q =
     let e : eqb (format i id n m .number) 0 ≡ false = not-true _ q in
     rw (format-refused i id n m e, e) (record { directory = refl; values = refl }, refl, refl)

@@ -4,6 +4,7 @@ pub mod Walk
 pub mod Retrieve
 pub mod StoreAgain
 pub mod Answers
+pub mod Room
 pub mod NeverStored
 pub mod Refusals
 pub mod Unread

@@ -21,8 +21,8 @@ use Rattle.commands.specs.Steps.{steps, statusOf}
 use Rattle.commands.specs.Answer.{answer}
 use Rattle.commands.specs.Formatting.{format}
 use Rattle.commands.specs.Command.{respond, serve, command}
-use Rattle.commands.specs.History.{Call, formatting, commanding, run, succeeded}
-use Rattle.commands.proofs.HistoryLaws.{status-back}
+use Rattle.module.specs.History.{Call, formatting, commanding, polling, run, succeeded}
+use Rattle.module.proofs.HistoryLaws.{status-back}
 use Rattle.promises.specs.Requests.{Request, call, asked}
 use Rattle.promises.specs.Calls.{status}
 use Rattle.promises.specs.Devices.{real, Point, at, moved, goes, opened}
@@ -47,6 +47,7 @@ staying-leaves before m p e c b = refl
 pub staying-forgets : Forgets staying
 staying-forgets before earlier m (formatting i id n) = refl
 staying-forgets before earlier m (commanding p e c b) = refl
+staying-forgets before earlier m polling = refl
 
 pub staying-opens : Opens staying
 staying-opens a ok = ok
@@ -105,6 +106,7 @@ module _ (f : ℕ → ℕ) where
   goes-same q [] = refl
   goes-same q (formatting i id n ∷ xs) = goes-same (moved real q (formatting i id n)) xs
   goes-same q (commanding p e c b ∷ xs) = goes-same (moved real q (commanding p e c b)) xs
+  goes-same q (polling ∷ xs) = goes-same (moved real q polling) xs
 
   abbrev Right : Request → Point → Type 0
   Right x q = statusOf true (q .stored) (asked x) (length (x .buffer)) ≡ 0 → succeeded (at (counting f) q (call x)) ≡ true

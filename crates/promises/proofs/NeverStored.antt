@@ -24,10 +24,10 @@ use Rattle.memory.specs.Memory.{Memory, formatSteps, halfOf, labelIn, directory
 use Rattle.commands.specs.Steps.{steps, statusOf}
 use Rattle.commands.specs.Formatting.{format}
 use Rattle.commands.specs.Command.{respond, serve, command}
-use Rattle.commands.specs.History.{Call, formatting, commanding, run, succeeded, told, stored}
+use Rattle.module.specs.History.{Call, formatting, commanding, polling, run, succeeded, told, stored}
 use Rattle.memory.proofs.ImageLaws.{Holds}
 use Rattle.commands.proofs.CommandLaws.{format-holds}
-use Rattle.commands.proofs.HistoryLaws.{told-call}
+use Rattle.module.proofs.HistoryLaws.{told-call}
 use Rattle.promises.specs.Histories.{Start, begun, memoryAfter, storedAfter, never}
 use Rattle.promises.specs.Requests.{Request, sends, refusal, Proper, Gives}
 use Rattle.promises.specs.Calls.{stores}
@@ -59,6 +59,7 @@ none-told k s m (formatting i id n) h e q = go (eqb (run m (formatting i id n) .
     go false = e
 none-told k s m (commanding p e c b) h f q =
     none-pairs (succeeded (run m (commanding p e c b))) k (readCommand e) b (s .pairs) (h .within .rising) f (not-true _ q)
+none-told k s m polling h e q = e
 
 none-stored : (k : Key) (s : Namespace) (m : Memory) (xs : List Call) → Holds s m → lookup k (s .pairs) ≡ none → never (stores k) m xs ≡ true
     → lookup k (stored s m xs .pairs) ≡ none

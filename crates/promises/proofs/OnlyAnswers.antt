@@ -15,7 +15,7 @@ use Rattle.memory.proofs.ImageLaws.{Holds, legal-holds, holds-over}
 use Rattle.commands.specs.Steps.{statusOf}
 use Rattle.commands.specs.Answer.{answer, answerAt}
 use Rattle.commands.specs.Command.{Post, Lent, serve}
-use Rattle.commands.specs.History.{commanding, lend, run}
+use Rattle.module.specs.History.{commanding, lend, run}
 use Rattle.commands.proofs.StepLaws.{illegal}
 use Rattle.commands.proofs.CommandLaws.{serve-is, serve-refused}
 use Rattle.promises.specs.Histories.{memoryAfter, writes}

@@ -1,5 +1,5 @@
 -- Bytes past the needed part change no outcome: on memories that differ in them alone each call gives the same number, completion and
--- data buffer, and memories that differ in them alone. Assumes nothing.
+-- data buffer, a poll the same used room, and memories that differ in them alone. Assumes nothing.
 use mathlib.Core.Path.{_≡_, refl, sym, ap, _∙_}
 use mathlib.Core.Bool.{Bool, true, false}
 use mathlib.Core.List.{List, [], _∷_}
@@ -21,7 +21,10 @@ use Rattle.commands.specs.Steps.{steps, statusOf}
 use Rattle.commands.specs.Answer.{answer}
 use Rattle.commands.specs.Formatting.{format}
 use Rattle.commands.specs.Command.{Post, completionOf, Lent, respond, serve, outcome}
-use Rattle.commands.specs.History.{Call, formatting, commanding, lend, run}
+use Rattle.room.specs.declared.gauge.Room.{Room}
+use Rattle.room.specs.Room.{room}
+use Rattle.room.proofs.RoomLaws.{room-held}
+use Rattle.module.specs.History.{Call, formatting, commanding, polling, lend, run}
 use Rattle.commands.proofs.CommandLaws.{entry-key, serve-is, serve-holds, command-0, command-1, command-2, format-holds, format-refused}
 use Rattle.promises.specs.Histories.{SameNeeded, begun}
 use Rattle.promises.specs.Requests.{call}
@@ -135,12 +138,24 @@ module _ (i id k : ℕ) (m n : Memory) (a : SameNeeded i k m n) where
           record { directory = h .directory ∙ sym (g .directory); values = h .values ∙ sym (g .values) }
       go false e = rw (format-refused i id k m e, format-refused i id k n (rw same-number at e)) a
 
+-- ---- a poll
+
+pub past-room : (m n : Memory) → SameNeeded (namespaceOf m .index) (namespaceOf m .size) m n → room m ≡ room n
+unfolding room
+past-room m n a = go (legal m) refl (legal n) refl
+  where
+    go : (x : Bool) → legal m ≡ x → (y : Bool) → legal n ≡ y → room m ≡ room n
+    go true f y g = let h = legal-holds m f in room-held h ∙ sym (room-held (alike-holds h a))
+    go false f true g = absurd (contrary (sym f ∙ alike-legal (alike-turned a) g))
+    go false f false g = rw (f, g)
+
 -- ---- the promise
 
 pub past : (m n : Memory) (x : Call) → SameNeeded (indexFor m x) (sizeFor m x) m n → SameOutcome (indexFor m x) (sizeFor m x) (run m x) (run n x)
 past m n (formatting i id k) a =
     record { number = same-number i id k m n a; completion = refl; buffer = refl; memory = same-formatted i id k m n a }
 past m n (commanding p e c b) a = past-command m n a p e c b
+past m n polling a = record { number = ap (λ (r : Room). r .number) (past-room m n a); completion = refl; buffer = refl; memory = a }
 
 -- ---- an instance: a Store of A on two memories that end in 7 and in 9
 

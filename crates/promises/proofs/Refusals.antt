@@ -19,7 +19,7 @@ use Rattle.commands.specs.Steps.{steps, statusOf}
 use Rattle.commands.specs.Answer.{answer}
 use Rattle.commands.specs.Formatting.{format}
 use Rattle.commands.specs.Command.{Post, Lent, respond, serve, Outcome, command}
-use Rattle.commands.specs.History.{Call, formatting, commanding, lend, run}
+use Rattle.module.specs.History.{Call, formatting, commanding, polling, lend, run}
 use Rattle.commands.proofs.CommandLaws.{command-0, command-1, command-2, serve-refused, format-refused}
 use Rattle.host.specs.Build as Build
 use Rattle.promises.specs.Agreement.{Ask, builds}
@@ -39,6 +39,7 @@ numbered-left m (commanding p e c b) h = go (eqb (length e) 64) refl (eqb (lengt
     go false f y g = ap (λ (o : Outcome). o .after) (command-1 p e (lend c b m) f)
     go true f false g = ap (λ (o : Outcome). o .after) (command-2 p e (lend c b m) f g)
     go true f true g = absurd (h (ap (λ (o : Outcome). o .number) (command-0 p e (lend c b m) f g)))
+numbered-left m polling h = refl
 
 refused-left : (m : Memory) (p : Post) (e c b : List ℕ) → ¬ (status (run m (commanding p e c b)) ≡ 0)
     → (run m (commanding p e c b) .after .buffer ≡ b) × (run m (commanding p e c b) .after .memory ≡ m)
@@ -63,6 +64,7 @@ pub refusals : (m : Memory) (x : Call) → Spares (lentTo m x) (run m x)
 unfolding readCompletion part number
 refusals m (formatting i id n) = record { numbered = numbered-left m (formatting i id n); refused = λ h. absurd (h refl) }
 refusals m (commanding p e c b) = record { numbered = numbered-left m (commanding p e c b); refused = refused-left m p e c b }
+refusals m polling = record { numbered = numbered-left m polling; refused = λ h. absurd (h refl) }
 
 -- the host's builder leaves the entry that it refuses to build
 pub builder-refusals : (e : List ℕ) (a : Ask) → ¬ (builds e a .number ≡ 0) → builds e a .entry ≡ e

@@ -18,8 +18,8 @@ use Rattle.commands.proofs.StepLaws.{PassedToH, passed-to-h}
 use Rattle.commands.proofs.AnswerLaws.{answer-status}
 use Rattle.memory.proofs.ImageLaws.{Holds}
 use Rattle.commands.proofs.CommandLaws.{format-holds}
-use Rattle.commands.proofs.HistoryLaws.{told-calls, call-number, call-status, call-dword0, call-buffer}
-use Rattle.commands.specs.History.{Call}
+use Rattle.module.proofs.HistoryLaws.{told-calls, call-number, call-status, call-dword0, call-buffer}
+use Rattle.module.specs.History.{Call}
 use Rattle.promises.specs.Histories.{Start, begun, memoryAfter, storedAfter}
 use Rattle.promises.specs.Requests.{Request, sends, asked, viewAt, stockAt, refusal, Gives}
 

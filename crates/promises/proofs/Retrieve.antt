@@ -21,10 +21,10 @@ use Rattle.octets.proofs.ZeroLaws.{true-same}
 use Rattle.store.proofs.MapLaws.{lookup-insert, lookup-insert-other, lookup-erase, lookup-erase-other}
 use Rattle.commands.specs.Steps.{steps, statusOf}
 use Rattle.commands.specs.Answer.{answer, pairsAfter}
-use Rattle.commands.specs.History.{Call, formatting, commanding, run, leaves, succeeded, told, stored}
+use Rattle.module.specs.History.{Call, formatting, commanding, polling, run, leaves, succeeded, told, stored}
 use Rattle.commands.proofs.AnswerLaws.{refused}
 use Rattle.memory.proofs.ImageLaws.{Holds}
-use Rattle.commands.proofs.HistoryLaws.{told-call}
+use Rattle.module.proofs.HistoryLaws.{told-call}
 use Rattle.promises.specs.Histories.{Start, begun, memoryAfter, storedAfter, never, touches}
 use Rattle.promises.specs.Requests.{Request, call, sends, asked, Proper, Gives}
 use Rattle.promises.specs.Retrieves.{valueIn, Since}
@@ -45,6 +45,7 @@ spared-pairs true false false w k j v m r o e = refl
 spared-told : (k : Key) (s : Namespace) (m : Memory) (x : Call) → Holds s m → not (touches k x (run m x)) ≡ true
     → lookup k (told s x (run m x) .pairs) ≡ lookup k (s .pairs)
 spared-told k s m (formatting i id n) h q = rw (not-true (eqb (run m (formatting i id n) .number) 0) q)
+spared-told k s m polling h q = refl
 spared-told k s m (commanding p e c b) h q =
     let d = readCommand e in
     spared-pairs (succeeded (run m (commanding p e c b))) (isStore (d .opcode)) (isDelete (d .opcode)) (same (keyOf d) k) k (keyOf d) _ (s .pairs)

@@ -15,7 +15,7 @@ use Rattle.store.specs.Namespace.{Namespace, fresh, withPairs}
 use Rattle.memory.specs.Memory.{Memory, halfOf, directoryOf}
 use Rattle.commands.specs.Steps.{steps, statusOf}
 use Rattle.commands.specs.Command.{Outcome}
-use Rattle.commands.specs.History.{Call, succeeded}
+use Rattle.module.specs.History.{Call, succeeded}
 use Rattle.promises.specs.Histories.{Start}
 use Rattle.promises.specs.Requests.{Request, call, asked, refusal, Proper, Gives}
 use Rattle.promises.specs.Retrieves.{SinceOn}

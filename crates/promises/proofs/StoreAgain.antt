@@ -17,7 +17,7 @@ use Rattle.memory.specs.Memory.{Memory}
 use Rattle.memory.proofs.ImageLaws.{Holds}
 use Rattle.commands.specs.Steps.{stepI, stepJ, statusOf}
 use Rattle.commands.specs.Answer.{answer}
-use Rattle.commands.specs.History.{Call}
+use Rattle.module.specs.History.{Call}
 use Rattle.commands.proofs.CommandLaws.{entry-key}
 use Rattle.promises.specs.Histories.{Start, begun, memoryAfter, storedAfter}
 use Rattle.promises.specs.Requests.{Request, call, sends, asked, stockAt, PassesI, Gives}

@@ -26,9 +26,11 @@ use Rattle.commands.specs.Formatting.{Formatted, formatted, format}
 use Rattle.commands.specs.Command.{Post, Lent, lent, Response, response, Outcome, outcome, command}
 use Rattle.commands.proofs.formatting as formatting
 use Rattle.commands.proofs.commands as commands
+use Rattle.room.proofs.gauge as gauge
 use Rattle.host.specs.Build.{Built, built, build}
 use Rattle.module.proofs.kv_format as kv_format
 use Rattle.module.proofs.kv_command as kv_command
+use Rattle.module.proofs.kv_used as kv_used
 use Rattle.host.proofs.builder as builder
 use Rattle.host.proofs.replies as replies
 use Rattle.host.proofs.pages as hostPages
@@ -56,6 +58,9 @@ pub kv-command-one : Determines kv_command.Kinds.ps kv_command.Kinds.r kv_comman
 kv-command-one κs a x y u v p q =
     one p q (λ (o : Outcome). o .number)
     (λ o. let l = o .after in (tt, (l .completion, (l .buffer, (l .memory .directory, (l .memory .values, (tt, (tt, (tt, tt)))))))))
+
+pub kv-used-one : Determines kv_used.Kinds.ps kv_used.Kinds.r kv_used.Reads.Learnt
+kv-used-one κs a x y u v p q = value p q
 
 pub kv-build-one : Determines builder.kv_build.Kinds.ps builder.kv_build.Kinds.r builder.kv_build.Reads.Learnt
 kv-build-one κs a x y u v p q = one p q (λ (b : Built). b .number) (λ b. (b .entry, (tt, (tt, (tt, (tt, (tt, (tt, tt))))))))
@@ -250,6 +255,11 @@ pub command-one : Determines commands.command.Kinds.ps commands.command.Kinds.r 
 command-one κs a x y u v p q =
     one p q (λ (o : Outcome). o .number)
     (λ o. let l = o .after in (tt, (l .completion, (l .buffer, (l .memory .directory, (l .memory .values, (tt, (tt, (tt, tt)))))))))
+
+-- ---- room
+
+pub used-room-one : Determines gauge.used_room.Kinds.ps gauge.used_room.Kinds.r gauge.used_room.Reads.Learnt
+used-room-one κs a x y u v p q = value p q
 
 -- ---- the same with the equation written out and taken apart: the exported functions that write slices, so that each thing yielded
 -- has its line

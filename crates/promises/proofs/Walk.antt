@@ -21,9 +21,9 @@ use Rattle.store.specs.Namespace.{Namespace, withPairs}
 use Rattle.memory.specs.Memory.{Memory}
 use Rattle.commands.specs.Steps.{steps, statusOf}
 use Rattle.commands.specs.Answer.{answer, pairsAfter}
-use Rattle.commands.specs.History.{Call, formatting, commanding, run, leaves, succeeded, told}
+use Rattle.module.specs.History.{Call, formatting, commanding, polling, run, leaves, succeeded, told}
 use Rattle.memory.proofs.ImageLaws.{Holds}
-use Rattle.commands.proofs.HistoryLaws.{told-call}
+use Rattle.module.proofs.HistoryLaws.{told-call}
 use Rattle.promises.specs.Histories.{Start, begun, memoryAfter, storedAfter, never, changes}
 use Rattle.promises.specs.Requests.{Request, call, sends, asked}
 use Rattle.promises.specs.Walks.{pageRead, newOn, lastOf, Lists, Onward, ended, paused, next, Walk, Finds}
@@ -40,6 +40,7 @@ calm-pairs true c b m e = let n = neither (isStore (c .opcode)) (isDelete (c .op
 
 calm-told : (s : Namespace) (m : Memory) (x : Call) → not (changes x (run m x)) ≡ true → told s x (run m x) ≡ s
 calm-told s m (formatting i id n) q = rw (not-true (eqb (run m (formatting i id n) .number) 0) q)
+calm-told s m polling q = refl
 calm-told s m (commanding p e c b) q = ap (withPairs s) (calm-pairs (succeeded (run m (commanding p e c b))) (readCommand e) b (s .pairs) (not-true _ q))
 
 calm-holds : (s : Namespace) (m : Memory) (xs : List Call) → Holds s m → never changes m xs ≡ true → Holds s (leaves m xs)
@@ -146,7 +147,7 @@ walk-finds-all a xs ok w =
       true-rising (ks s) (h .within .rising),
     )
 
--- ---- an instance: three keys of sixteen bytes, of which 44 bytes hold two, and a call between the Lists
+-- ---- an instance: three keys of sixteen bytes, of which 44 bytes hold two, and a command and a poll between the Lists
 
 abbrev calls : List Call
 calls = call (store (key 1) []) ∷ call (store (key 3) []) ∷ call (store (key 2) []) ∷ []
@@ -160,7 +161,7 @@ walked =
     record {
       first = list [];
       lists = record { proper = record { opcode = refl; key = refl; passes = refl }; wide = omega arith };
-      onward = next {k = key 1} {ks = key 2 ∷ []} (call (exist (key 1)) ∷ []) (list (key 2)) refl
+      onward = next {k = key 1} {ks = key 2 ∷ []} (call (exist (key 1)) ∷ polling ∷ []) (list (key 2)) refl
           (record { proper = record { opcode = refl; key = refl; passes = refl }; wide = omega arith })
           (next {k = key 3} {ks = []} [] (list (key 3)) refl
           (record { proper = record { opcode = refl; key = refl; passes = refl }; wide = omega arith }) ended);

@@ -9,13 +9,14 @@ use Rattle.wire.specs.Entry.{readCommand, keyOf, isStore}
 use Rattle.wire.specs.Completion.{readCompletion}
 use Rattle.memory.specs.Memory.{Memory, namespaceOf}
 use Rattle.commands.specs.Command.{Lent, Outcome}
-use Rattle.commands.specs.History.{Call, formatting, commanding, lend, succeeded}
+use Rattle.module.specs.History.{Call, formatting, commanding, polling, lend, succeeded}
 use Rattle.promises.specs.Histories.{SameNeeded}
 
--- all that a call is lent; a formatting has neither completion nor data buffer
+-- all that a call is lent; a formatting and a poll have neither completion nor data buffer
 abbrev pub lentTo : Memory → Call → Lent
 lentTo m (formatting i id n) = lend [] [] m
 lentTo m (commanding p e c b) = lend c b m
+lentTo m polling = lend [] [] m
 
 -- the status that the completion says
 abbrev pub status : Outcome → ℕ
@@ -28,14 +29,16 @@ pub record Spares (l : Lent) (o : Outcome) : Type 0 where
 
 -- ---- the needed part
 
--- a formatting goes by its own format and size, a command by those that stand in memory
+-- a formatting goes by its own format and size, a command and a poll by those that stand in memory
 abbrev pub indexFor : Memory → Call → ℕ
 indexFor m (formatting i id n) = i
 indexFor m (commanding p e c b) = namespaceOf m .index
+indexFor m polling = namespaceOf m .index
 
 abbrev pub sizeFor : Memory → Call → ℕ
 sizeFor m (formatting i id n) = n
 sizeFor m (commanding p e c b) = namespaceOf m .size
+sizeFor m polling = namespaceOf m .size
 
 -- two outcomes that differ at most in bytes past the needed part
 pub record SameOutcome (index size : ℕ) (x y : Outcome) : Type 0 where
@@ -49,3 +52,4 @@ pub record SameOutcome (index size : ℕ) (x y : Outcome) : Type 0 where
 abbrev pub stores : Key → Call → Outcome → Bool
 stores k (formatting i id n) o = false
 stores k (commanding p e c b) o = succeeded o && isStore (readCommand e .opcode) && same (keyOf (readCommand e)) k
+stores k polling o = false

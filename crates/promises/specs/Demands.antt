@@ -12,7 +12,7 @@ use Rattle.wire.specs.Page.{page, shown, Reading}
 use Rattle.store.specs.Maps.{lookup, keys as keysOf}
 use Rattle.store.specs.Namespace.{Namespace}
 use Rattle.commands.specs.Steps.{statusOf}
-use Rattle.commands.specs.History.{Call, succeeded}
+use Rattle.module.specs.History.{Call, succeeded}
 use Rattle.promises.specs.Histories.{Start, begun, Shows}
 use Rattle.promises.specs.Requests.{Request, call, asked, Proper, Gives}
 use Rattle.promises.specs.Retrieves.{valueIn, SinceOn}

@@ -3,7 +3,7 @@ use mathlib.Core.List.{List, [], _∷_}
 use Rattle.store.specs.Namespace.{Namespace, fresh}
 use Rattle.memory.specs.Memory.{Memory}
 use Rattle.commands.specs.Command.{Outcome}
-use Rattle.commands.specs.History.{Call, formatting, run, told}
+use Rattle.module.specs.History.{Call, formatting, run, told}
 use Rattle.promises.specs.Histories.{Start, System}
 
 -- the outcome of a call on lent memory; a device may go by the calls before it too, the latest of them first

@@ -13,7 +13,7 @@ use Rattle.store.specs.Maps.{lookup}
 use Rattle.store.specs.Namespace.{Namespace, fresh, within}
 use Rattle.commands.specs.Formatting.{Formatted, format}
 use Rattle.commands.specs.Command.{Outcome}
-use Rattle.commands.specs.History.{Call, formatting, commanding, run, leaves, succeeded, stored}
+use Rattle.module.specs.History.{Call, formatting, commanding, polling, run, leaves, succeeded, stored}
 
 -- lent bytes, and what their formatting is given
 pub record Start : Type 0 where
@@ -79,6 +79,7 @@ never = neverOn own
 abbrev pub formats : Call → Outcome → Bool
 formats (formatting i id n) o = eqb (o .number) 0
 formats (commanding p e c b) o = false
+formats polling o = false
 
 -- Store and Delete change what is stored; Retrieve, List and Exist only answer
 abbrev pub writes : ℕ → Bool
@@ -88,8 +89,10 @@ writes op = isStore op || isDelete op
 abbrev pub changes : Call → Outcome → Bool
 changes (formatting i id n) o = eqb (o .number) 0
 changes (commanding p e c b) o = succeeded o && writes (readCommand e .opcode)
+changes polling o = false
 
 -- it formats with success, or changes what is held under k
 abbrev pub touches : Key → Call → Outcome → Bool
 touches k (formatting i id n) o = eqb (o .number) 0
 touches k (commanding p e c b) o = changes (commanding p e c b) o && same (keyOf (readCommand e)) k
+touches k polling o = false

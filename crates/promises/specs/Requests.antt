@@ -17,7 +17,7 @@ use Rattle.commands.specs.Steps.{viewOf, stockOf, stepsToH, stepI}
 use Rattle.commands.specs.Answer.{Answer}
 use Rattle.memory.specs.Memory.{Memory}
 use Rattle.commands.specs.Command.{Post, Outcome}
-use Rattle.commands.specs.History.{Call, commanding, run}
+use Rattle.module.specs.History.{Call, commanding, run}
 
 pub record Request : Type 0 where
   pub post : Post

@@ -6,7 +6,7 @@ use Prim.Native.Nat.{ℕ}
 use lib.ListN.{take}
 use Rattle.octets.specs.Keys.{Key}
 use Rattle.wire.specs.Entry.{keyOf}
-use Rattle.commands.specs.History.{Call, succeeded}
+use Rattle.module.specs.History.{Call, succeeded}
 use Rattle.promises.specs.Histories.{Start, begun, memoryAfter, System, own, neverOn, touches}
 use Rattle.promises.specs.Requests.{Request, call, asked}
 

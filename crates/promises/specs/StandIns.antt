@@ -10,7 +10,7 @@ use Rattle.wire.specs.Entry.{readCommand, isList}
 use Rattle.wire.specs.Page.{page, keys, readPage}
 use Rattle.memory.specs.Memory.{Memory}
 use Rattle.commands.specs.Command.{Post, completionOf, outcome}
-use Rattle.commands.specs.History.{Call, formatting, commanding, lend, run, succeeded}
+use Rattle.module.specs.History.{Call, formatting, commanding, polling, lend, run, succeeded}
 use Rattle.promises.specs.Histories.{Start}
 use Rattle.promises.specs.Requests.{Request, call, asked}
 use Rattle.promises.specs.Calls.{status}
@@ -37,6 +37,7 @@ abbrev pub commanded : List Call → Bool
 commanded [] = false
 commanded (formatting i id n ∷ xs) = commanded xs
 commanded (commanding p e c b ∷ xs) = true
+commanded (polling ∷ xs) = commanded xs
 
 -- after the first command each has status 00h and its data buffer back; what formattings do is free, and so are numbers 1 and 2
 abbrev pub Idles : Device → Type 0
@@ -77,6 +78,7 @@ Empties d = (before : List Call) (m : Memory) (p : Post) (e c b : List ℕ) → 
 -- but for the completion
 abbrev pub saying : ℕ → Device
 saying st before m (formatting i id n) = run m (formatting i id n)
+saying st before m polling = run m polling
 saying st before m (commanding p e c b) =
     let o = run m (commanding p e c b) in
     outcome (o .number) (lend (completionOf p (readCommand e) st 0) (o .after .buffer) (o .after .memory))
@@ -84,6 +86,7 @@ saying st before m (commanding p e c b) =
 -- but for the memory after a command
 abbrev pub staying : Device
 staying before m (formatting i id n) = run m (formatting i id n)
+staying before m polling = run m polling
 staying before m (commanding p e c b) =
     let o = run m (commanding p e c b) in
     outcome (o .number) (lend (o .after .completion) (o .after .buffer) m)
@@ -91,6 +94,7 @@ staying before m (commanding p e c b) =
 -- until a command was among the calls
 abbrev pub resting : Device
 resting before m (formatting i id n) = run m (formatting i id n)
+resting before m polling = run m polling
 resting before m (commanding p e c b) =
     let o = run m (commanding p e c b) in
     cond (commanded before && eqb (o .number) 0) (outcome 0 (lend (completionOf p (readCommand e) 0 0) b m)) o

@@ -10,7 +10,7 @@ use Rattle.octets.specs.Keys.{Key}
 use Rattle.wire.specs.Page.{Reading, refused, keys, behind, readPage}
 use Rattle.store.specs.Namespace.{Namespace}
 use Rattle.memory.specs.Memory.{Memory}
-use Rattle.commands.specs.History.{Call}
+use Rattle.module.specs.History.{Call}
 use Rattle.promises.specs.Histories.{System, own, neverOn, changes}
 use Rattle.promises.specs.Requests.{Request, call, asked, Proper}
 

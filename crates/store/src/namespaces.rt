@@ -5,4 +5,5 @@ pub struct Label {
     pub index: u32,
     pub size: u32,
     pub count: u32,
+    pub used: u32,
 }

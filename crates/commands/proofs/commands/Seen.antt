@@ -21,7 +21,7 @@ use Rattle.memory.specs.declared.checks.Checked.{Checked}
 use Rattle.memory.specs.Memory.{memory, namespaceOf, pairsOf, legal}
 use Rattle.memory.specs.Checks.{checked, keysAt, roomAt, Looked, CanLook, CanWeigh}
 use Rattle.memory.proofs.LegalLaws.{checked-legal, legal-checked}
-use Rattle.memory.proofs.RoomLaws.{looked-in, room-is, room-sum, can-weigh}
+use Rattle.memory.proofs.RoomLaws.{looked-in, room-is, can-weigh}
 use Rattle.commands.specs.declared.steps.View.{View}
 use Rattle.commands.specs.declared.steps.Stock.{Stock}
 use Rattle.commands.specs.Steps.{viewOf, stockOf, stepsToH, stepsFromI, steps, statusOf}
@@ -36,7 +36,7 @@ view k n = record { legal = k .ok; format = k .format; id = k .label .id; room =
 
 abbrev pub stock : Checked → Found → ℕ → Stock
 stock k f old =
-    record { held = f .held; old = old; used = k .used; count = k .label .count; maxkeys = k .format .maxkeys; size = k .label .size }
+    record { held = f .held; old = old; used = k .label .used; count = k .label .count; maxkeys = k .format .maxkeys; size = k .label .size }
 
 module _ (c : Command) (b d v : List ℕ) where
   abbrev s : Namespace
@@ -89,20 +89,17 @@ module _ (c : Command) (b d v : List ℕ) where
       key-is = rw ef
 
       looked : Looked f (keys (pairsOf (memory d v)))
-      looked = looked-in (a .legal) (c .key) (c .len) (early .sixteen) ef
+      looked = looked-in (a .legal) (c .key) (c .len) l (early .sixteen) ef
 
       pub weighs : CanWeigh k f d
-      weighs = can-weigh (a .legal) looked (rw ef l)
-
-      pub weighed : roomAt k f d ≤ k .used
-      weighed = room-sum (a .legal) looked (rw ef l)
+      weighs = can-weigh (a .legal) looked
 
       module _ {old st : ℕ} (eo : old ≡ roomAt k f d) (e : st ≡ firstOf (stepsFromI (stock k f old) c)) where
         status-is : statusOf true s c (length b) ≡ st
         unfolding statusOf steps
         status-is =
             let held : f .held ≡ present (keyOf c) (pairsOf (memory d v)) = looked .held ∙ rw key-is (has-present (keyOf c) (pairsOf (memory d v))) in
-            let room : old ≡ heldRoom (keyOf c) (pairsOf (memory d v)) = eo ∙ room-is (a .legal) looked (rw ef l) ∙ rw key-is in
+            let room : old ≡ heldRoom (keyOf c) (pairsOf (memory d v)) = eo ∙ room-is (a .legal) looked ∙ rw key-is in
             let x = viewOf true s (length b) in
             none-first (stepsToH x c) (stepsFromI (stockOf s (keyOf c)) c) (none-holds (stepsToH x c) tt (a .early))
             ∙ sym (e ∙ rw (held, room, a .legal .is))
@@ -111,4 +108,4 @@ module _ (c : Command) (b d v : List ℕ) where
         refused-late q = refusing (rw (a .legal .legal) status-is) q
 
         pub ruled : st ≡ 0 → Ruled c k f (length b) d v
-        ruled q = record { legal = a .legal; looked = looked; key = key-is; sixteen = rw ef l; given = l; status = status-is ∙ q }
+        ruled q = record { legal = a .legal; looked = looked; key = key-is; given = l; status = status-is ∙ q }

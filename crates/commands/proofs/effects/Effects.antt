@@ -66,7 +66,6 @@ module _ {c : Command} {k : Checked} {f : Found} (b : List ℕ) {d v : List ℕ}
         record {
           legal = r .legal;
           looked = r .looked;
-          sixteen = r .sixteen;
           within = rw (r .key) (true-within _ (store-within s c b (holds-in (r .legal) .within) (r .given) (rw op) p));
         }
 

@@ -12,36 +12,37 @@ use Rattle.octets.specs.Octets.{put, bytes, zeros}
 use Rattle.octets.proofs.PartLaws.{put-seam, put-front}
 use Rattle.store.specs.declared.finds.Found.{Found}
 use Rattle.store.specs.Formats.{slots}
-use Rattle.store.specs.Maps.{Pair, pair, values, insert, erase}
+use Rattle.store.specs.Maps.{Pair, pair, values, insert, erase, used}
 use Rattle.store.specs.Namespace.{Namespace, withPairs}
 use Rattle.store.specs.Records.{pairsIn}
 use Rattle.store.specs.Parts.{Holds as Parts, inserted, erased}
 use Rattle.store.specs.Finds.{foundKey}
 use Rattle.store.specs.Verbs.{CanInsert, CanRemove, CanReplace}
 use Rattle.store.proofs.NamespaceLaws.{Within, within-true}
-use Rattle.store.proofs.CountLaws.{erase-within}
+use Rattle.store.proofs.CountLaws.{insert-used, erase-within}
 use Rattle.store.proofs.PartsLaws.{values-used, records-long, values-long}
 use Rattle.store.proofs.SlotLaws.{value-length-at, length-inserted, length-erased, values-inserted, values-erased}
 use Rattle.store.proofs.RankLaws.{insert-held, insert-new, erase-held}
 use Rattle.memory.specs.declared.checks.Checked.{Checked}
 use Rattle.memory.specs.Memory.{memory, needed, halfOf, labelOf, directoryHead, directoryOf, valuesOf, imageOver, imageWith, namespaceOf, pairsOf}
-use Rattle.memory.specs.Checks.{recordsAt, valuesAt, Legal, CanPut, CanErase}
+use Rattle.memory.specs.Checks.{recordsAt, valuesAt, roomAt, Legal, CanPut, CanErase}
 use Rattle.memory.proofs.ImageLaws.{length-directory, length-values, head-held}
 use Rattle.memory.proofs.LegalLaws.{holds-in, pairs-at, count-is, part-is, standing-in}
-use Rattle.memory.proofs.RoomLaws.{slot-le, slot-lt}
+use Rattle.memory.proofs.RoomLaws.{slot-le, slot-lt, sum-without}
 
 -- ---- the whole slices out of a head, a records part and a values part
 
--- another count in the head
-abbrev with-count : Namespace → ℕ → List ℕ
-with-count s c = directoryHead (record { id = s .id; index = s .index; size = s .size; count = c })
+-- another count and another used room in the head
+abbrev with-counts : Namespace → ℕ → ℕ → List ℕ
+with-counts s c u = directoryHead (record { id = s .id; index = s .index; size = s .size; count = c; used = u })
 
-counted : (s : Namespace) (n c : ℕ) (xs : List ℕ) → put 12 (bytes 4 c) (with-count s n ++ xs) ≡ with-count s c ++ xs
+counted : (s : Namespace) (n t c u : ℕ) (xs : List ℕ) → put 12 (bytes 4 c ++ bytes 4 u) (with-counts s n t ++ xs) ≡ with-counts s c u ++ xs
 unfolding halfOf
-counted s n c xs =
+counted s n t c u xs =
     let front : List ℕ = bytes 4 (s .id) ++ bytes 4 (s .index) ++ bytes 4 (s .size) in
-    let split : (k : ℕ) → with-count s k ++ xs ≡ front ++ bytes 4 k ++ (zeros 16 ++ (zeros 32 ++ xs)) = λ k. simp append-assoc in
-    rw (split n, split c) (put-seam front (bytes 4 n) (zeros 16 ++ (zeros 32 ++ xs)) (bytes 4 c) refl)
+    let rest : List ℕ = zeros 12 ++ (zeros 32 ++ xs) in
+    let split : (k j : ℕ) → with-counts s k j ++ xs ≡ front ++ (bytes 4 k ++ bytes 4 j) ++ rest = λ k j. simp append-assoc in
+    rw (split n t, split c u) (put-seam front (bytes 4 n ++ bytes 4 t) rest (bytes 4 c ++ bytes 4 u) refl)
 
 -- what a verb leaves of the parts that k names: r and w, the parts of m
 abbrev pub Left : Checked → List ℕ → List ℕ → List Pair → List ℕ → List ℕ → Type 0
@@ -86,13 +87,12 @@ module _ {k : Checked} {d v : List ℕ} (g : Legal k d v) (f : List Pair → Lis
   head-is : take (k .start) d ≡ directoryHead (labelOf s)
   head-is = rw (g .is) (head-held (holds-in g))
 
-  same-count : length m ≡ length (s .pairs) → memory (directoryWith k d r) (valuesWith k v w) ≡ imageOver (withPairs s m) (memory d v)
-  same-count e = ap₂ memory (directory-made (take (k .start) d) (head-is ∙ ap (with-count s) (sym e))) values-made
-
-  new-count : {d′ : List ℕ} (c : ℕ) → d′ ≡ put 12 (bytes 4 c) (directoryWith k d r) → c ≡ length m
+  new-image : {d′ : List ℕ} (c u : ℕ) → d′ ≡ put 12 (bytes 4 c ++ bytes 4 u) (directoryWith k d r) → c ≡ length m → u ≡ used m
       → memory d′ (valuesWith k v w) ≡ imageOver (withPairs s m) (memory d v)
-  new-count c e n =
-      ap₂ memory (e ∙ rw head-is (counted s (length (s .pairs)) c _) ∙ directory-made (with-count s c) (ap (with-count s) n)) values-made
+  new-image c u e n t =
+      ap₂ memory
+      (e ∙ rw head-is (counted s (length (s .pairs)) (used (s .pairs)) c u _) ∙ directory-made (with-counts s c u) (ap₂ (with-counts s) n t))
+      values-made
 
 -- ---- erase
 
@@ -106,13 +106,14 @@ module _ {k : Checked} {f : Found} {d v : List ℕ} (c : CanErase k f d v) where
   pub can-remove : CanRemove (k .label .id) (k .label .count) (k .total) (f .slot) (recordsAt k d) (valuesAt k v)
   can-remove = record { standing = standing-in (c .legal); slot = omega (arith, inside, count-is (c .legal)) }
 
-  pub erased-image : {d′ r w : List ℕ} → Left k d v (erased (f .slot) (pairsIn (k .label .count) (recordsAt k d) (valuesAt k v))) r w
-      → d′ ≡ put 12 (bytes 4 (k .label .count - 1)) (directoryWith k d r)
+  pub erased-image : {d′ r w : List ℕ} {u : ℕ} → u ≡ k .label .used - roomAt k f d
+      → Left k d v (erased (f .slot) (pairsIn (k .label .count) (recordsAt k d) (valuesAt k v))) r w
+      → d′ ≡ put 12 (bytes 4 (k .label .count - 1) ++ bytes 4 u) (directoryWith k d r)
       → memory d′ (valuesWith k v w) ≡ imageWith (erase (foundKey f)) (memory d v)
-  erased-image p e =
+  erased-image {u = u} z p e =
       let is : erase (foundKey f) old ≡ erased (f .slot) old = rw (c .looked .slot) (erase-held (foundKey f) old (sym (c .looked .held) ∙ c .held)) in
-      new-count (c .legal) (erased (f .slot)) p is (erase-within (namespaceOf (memory d v)) (foundKey f) (holds-in (c .legal) .within)) _ e
-      (omega (arith, ap length is, length-erased (f .slot) old inside, count-is (c .legal)))
+      new-image (c .legal) (erased (f .slot)) p is (erase-within (namespaceOf (memory d v)) (foundKey f) (holds-in (c .legal) .within)) _ u e
+      (omega (arith, ap length is, length-erased (f .slot) old inside, count-is (c .legal))) (z ∙ sum-without (c .legal) (c .looked))
 
 -- ---- put
 
@@ -134,6 +135,15 @@ module _ {k : Checked} {f : Found} {x d v : List ℕ} (c : CanPut k f x d v) whe
   room-left =
       let i : k .label .size ≡ namespaceOf (memory d v) .size = rw (c .legal .is) in
       omega (arith, values-used (insert (foundKey f) x m), limits .room, values-long (part-is (c .legal) .holds))
+
+  -- the used room with the pair
+  pub used-is : {u : ℕ} → u ≡ k .label .used - roomAt k f d → u + f .len + length x ≡ used (insert (foundKey f) x m)
+  used-is z =
+      let n = length-take (f .len) (f .key) in
+      omega (arith, z ∙ sum-without (c .legal) (c .looked), insert-used (foundKey f) x m, n, c .looked)
+
+  pub used-small : {u : ℕ} → u ≡ k .label .used - roomAt k f d → u + f .len + length x ≤ 65536
+  used-small z = omega (arith, used-is z, limits .room, limits .permits .size-high)
 
   total-is : k .total ≡ length (values m)
   total-is = rw (pairs-at (c .legal)) at (standing-in (c .legal) .total)
@@ -160,12 +170,13 @@ module _ {k : Checked} {f : Found} {x d v : List ℕ} (c : CanPut k f x d v) whe
         let room = rw again at room-left in
         record { removes = can-remove erases; fits = omega (arith, total-is); key = key-short }
 
-    pub replaced-image : {r w : List ℕ}
+    pub replaced-image : {d′ r w : List ℕ} {u : ℕ} → u ≡ used (insert (foundKey f) x m)
         → Left k d v (inserted (f .slot) p (erased (f .slot) (pairsIn (k .label .count) (recordsAt k d) (valuesAt k v)))) r w
-        → memory (directoryWith k d r) (valuesWith k v w) ≡ imageWith (insert (foundKey f) x) (memory d v)
-    replaced-image q =
-        same-count (c .legal) (λ (l : List Pair). inserted (f .slot) p (erased (f .slot) l)) q again limits
-        (ap length again ∙ omega (arith, length-inserted (f .slot) p rest (fewer .1), fewer, inside erases))
+        → d′ ≡ put 12 (bytes 4 (k .label .count) ++ bytes 4 u) (directoryWith k d r)
+        → memory d′ (valuesWith k v w) ≡ imageWith (insert (foundKey f) x) (memory d v)
+    replaced-image {u = u} z q e =
+        new-image (c .legal) (λ (l : List Pair). inserted (f .slot) p (erased (f .slot) l)) q again limits _ u e
+        (omega (arith, ap length again, length-inserted (f .slot) p rest (fewer .1), fewer, inside erases, count-is (c .legal))) z
 
   -- a new key
   module _ (h : f .held ≡ false) where
@@ -189,7 +200,8 @@ module _ {k : Checked} {f : Found} {x d v : List ℕ} (c : CanPut k f x d v) whe
           key = key-short;
         }
 
-    pub inserted-image : {d′ r w : List ℕ} → Left k d v (inserted (f .slot) p (pairsIn (k .label .count) (recordsAt k d) (valuesAt k v))) r w
-        → d′ ≡ put 12 (bytes 4 (k .label .count + 1)) (directoryWith k d r)
+    pub inserted-image : {d′ r w : List ℕ} {u : ℕ} → u ≡ used (insert (foundKey f) x m)
+        → Left k d v (inserted (f .slot) p (pairsIn (k .label .count) (recordsAt k d) (valuesAt k v))) r w
+        → d′ ≡ put 12 (bytes 4 (k .label .count + 1) ++ bytes 4 u) (directoryWith k d r)
         → memory d′ (valuesWith k v w) ≡ imageWith (insert (foundKey f) x) (memory d v)
-    inserted-image q e = new-count (c .legal) (inserted (f .slot) p) q added limits _ e (sym more)
+    inserted-image {u = u} z q e = new-image (c .legal) (inserted (f .slot) p) q added limits _ u e (sym more) z

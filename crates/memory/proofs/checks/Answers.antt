@@ -1,21 +1,24 @@
 -- What `check` answers: one law for each way out. Assumes nothing.
 use mathlib.Core.Path.{_≡_, sym, ap, _∙_}
-use mathlib.Core.Bool.{Bool, true, false, not}
+use mathlib.Core.Bool.{Bool, true, false, not, _||_}
 use mathlib.Core.List.{List, _++_}
-use Prim.Native.Nat.{ℕ, _-_, _*_, _≤_, _<_}
+use Prim.Native.Nat.{ℕ, _+_, _-_, _*_, _≤_, _<_}
 use native.Mathlib.Omega.{arith}
+use lib.Dec.{eqb}
 use lib.ListN.{length, take, drop}
 use lib.Seq.{length-take-le}
-use borrow.Author.Tests.{not-true, not-false}
-use Rattle.octets.specs.Octets.{part, zeros, allZero}
-use Rattle.octets.proofs.TestLaws.{refuted, contrary}
+use borrow.Author.Tests.{eqb-true, eq-eqb, not-true, not-false}
+use Rattle.octets.specs.Octets.{part, number, bytes, zeros, allZero}
+use Rattle.octets.proofs.TestLaws.{refuted, contrary, neither}
 use Rattle.octets.proofs.PartLaws.{length-part, part-two, part-front, part-take}
 use Rattle.octets.proofs.NumberLaws.{Bytes, bytes-in}
 use Rattle.octets.proofs.ZeroLaws.{all-zeros}
 use Rattle.store.specs.declared.namespaces.Label.{Label}
 use Rattle.store.specs.declared.checks.Sums.{Sums}
 use Rattle.store.specs.Formats.{slots}
+use Rattle.store.specs.Maps.{used}
 use Rattle.store.specs.Namespace.{Namespace}
+use Rattle.store.specs.Records.{pairsIn}
 use Rattle.store.specs.Checks.{Checkable, partLegal, partSums}
 use Rattle.store.proofs.NamespaceLaws.{no-number}
 use Rattle.store.proofs.PartsLaws.{length-pairs, pairs-held}
@@ -27,20 +30,22 @@ use Rattle.memory.proofs.FormatLaws.{formats, Measures, measures}
 use Rattle.memory.proofs.ImageLaws.{Holds, holds-back, holds-legal, legal-holds, formattable-held, label-held, head-held, part-held, parts-hold}
 
 -- a head is written as it is read, where zeros stand behind its numbers
-head-is : (d : List ℕ) → Bytes d → 64 ≤ length d → allZero (part 16 48 d) ≡ true → take 64 d ≡ directoryHead (labelIn d)
+head-is : (d : List ℕ) → Bytes d → 64 ≤ length d → allZero (part 20 44 d) ≡ true → take 64 d ≡ directoryHead (labelIn d)
 unfolding halfOf labelIn
 head-is d b l z =
-    let y : zeros 48 ≡ part 16 48 d = sym (rw (length-part 16 48 d (omega arith)) at (all-zeros (part 16 48 d) z)) in
-    sym (joins (bytes-in 0 4 d b (omega arith)) (bytes-in 4 4 d b (omega arith)) (bytes-in 8 4 d b (omega arith)) (bytes-in 12 4 d b (omega arith)) y)
+    let y : zeros 44 ≡ part 20 44 d = sym (rw (length-part 20 44 d (omega arith)) at (all-zeros (part 20 44 d) z)) in
+    let word : (at : ℕ) → at + 4 ≤ 64 → bytes 4 (number (part at 4 d)) ≡ part at 4 d = λ at l4. bytes-in at 4 d b (omega arith) in
+    sym (joins (word 0 (omega arith)) (word 4 (omega arith)) (word 8 (omega arith)) (word 12 (omega arith)) (word 16 (omega arith)) y)
   where
-    joins : {a e f g y : List ℕ} → a ≡ part 0 4 d → e ≡ part 4 4 d → f ≡ part 8 4 d → g ≡ part 12 4 d → y ≡ part 16 48 d
-        → a ++ e ++ f ++ g ++ y ≡ take 64 d
-    joins pa pe pf pg py =
-        rw (pa, pe, pf, pg, py, ← part-two 0 4 4 d, ← part-two 0 8 4 d, ← part-two 0 12 4 d, ← part-two 0 16 48 d) (part-front 64 d)
+    joins : {a e f g u y : List ℕ} → a ≡ part 0 4 d → e ≡ part 4 4 d → f ≡ part 8 4 d → g ≡ part 12 4 d → u ≡ part 16 4 d → y ≡ part 20 44 d
+        → a ++ e ++ f ++ g ++ u ++ y ≡ take 64 d
+    joins pa pe pf pg pu py =
+        rw (pa, pe, pf, pg, pu, py, ← part-two 0 4 4 d, ← part-two 0 8 4 d, ← part-two 0 12 4 d, ← part-two 0 16 4 d, ← part-two 0 20 44 d)
+        (part-front 64 d)
 
-blank : {s : Namespace} {d v : List ℕ} → Holds s (memory d v) → allZero (part 16 48 d) ≡ true
+blank : {s : Namespace} {d v : List ℕ} → Holds s (memory d v) → allZero (part 20 44 d) ≡ true
 unfolding halfOf part
-blank {s} {d} h = ap allZero (sym (part-take 16 48 64 d (omega arith)) ∙ ap (part 16 48) (head-held h))
+blank {s} {d} h = ap allZero (sym (part-take 20 44 64 d (omega arith)) ∙ ap (part 20 44) (head-held h))
 
 module _ (d v : List ℕ) where
   refuse : (Holds (namespaceOf (memory d v)) (memory d v) → ⊥) → notLegal ≡ checked (memory d v)
@@ -50,7 +55,7 @@ module _ (d v : List ℕ) where
   pub check-short : length d < 64 → notLegal ≡ checked (memory d v)
   check-short l = refuse (λ h. omega (arith, formattable-held h .directory))
 
-  pub check-zeros : {z : Bool} → z ≡ allZero (part 16 48 d) → not z ≡ true → notLegal ≡ checked (memory d v)
+  pub check-zeros : {z : Bool} → z ≡ allZero (part 20 44 d) → not z ≡ true → notLegal ≡ checked (memory d v)
   check-zeros {z} e q = refuse (λ h. contrary (sym (not-true z q) ∙ e ∙ blank h))
 
   module _ {h : Label} {r : Measured} (eh : h ≡ labelIn d) (er : r ≡ measured (h .index) (h .id) (h .size) (length d) (length v)) where
@@ -85,21 +90,35 @@ module _ (d v : List ℕ) where
         sums-are : t ≡ partSums h (recordsIn h d) (valuesIn h v)
         sums-are = rw records-are at et
 
-        pub check-sums : not (t .ok) ≡ true → notLegal ≡ checked (memory d v)
+        -- the sums are refused, or the head says another sum
+        abbrev wrong : Bool
+        wrong = not (t .ok) || not (eqb (t .used) (h .used))
+
+        -- neither is so of legal memory
+        summed : Holds (namespaceOf (memory d v)) (memory d v) → (t .ok ≡ true) × (t .used ≡ h .used)
         unfolding partSums
-        check-sums q =
-            refuse
-            (λ g.
+        summed g =
             let e : h ≡ labelOf (namespaceOf (memory d v)) = eh ∙ label-held g in
             let p = part-held g in
             let y : partLegal h (recordsIn h d) (valuesIn h v) ≡ true = rw e (part-legal _ _ _ (rw (pairs-held (p .holds)) p)) in
-            contrary (sym (not-true (t .ok) q) ∙ rw y at (ap (λ (x : Sums). x .ok) sums-are)))
+            let q = rw y at sums-are in
+            (rw q, rw (q, e, pairs-held (p .holds)))
 
-        pub check-passed : {y : Bool} → y ≡ allZero (part 16 48 d) → not y ≡ false → not (t .ok) ≡ false → Bytes d
-            → record { ok = true; label = h; format = r .format; start = 64; end = r .end; total = t .total; used = t .used } ≡ checked (memory d v)
+        pub check-sums : wrong ≡ true → notLegal ≡ checked (memory d v)
+        check-sums q =
+            refuse
+            (λ g.
+            let s = summed g in
+            contrary (rw (s .0, eq-eqb (t .used) (h .used) (s .1)) at q))
+
+        pub check-passed : {y : Bool} → y ≡ allZero (part 20 44 d) → not y ≡ false → wrong ≡ false → Bytes d
+            → record { ok = true; label = h; format = r .format; start = 64; end = r .end; total = t .total } ≡ checked (memory d v)
         unfolding checked
         check-passed {y} ey qy q b =
-            let p = sums-legal h (recordsIn h d) (valuesIn h v) t sums-are (not-false (t .ok) q) in
+            let n = neither (not (t .ok)) (not (eqb (t .used) (h .used))) q in
+            let p = sums-legal h (recordsIn h d) (valuesIn h v) t sums-are (not-false (t .ok) (n .0)) in
+            let u : h .used ≡ used (pairsIn (h .count) (recordsIn h d) (valuesIn h v)) =
+            sym (eqb-true (t .used) (h .used) (not-false _ (n .1))) ∙ ap (λ (x : Sums). x .used) (p .1) in
             let e : take 64 d ≡ directoryHead h = rw eh (head-is d b (omega (arith, m .formattable .directory)) (sym ey ∙ not-false y qy)) in
-            let g = parts-hold h d v e (legal-part h (recordsIn h d) (valuesIn h v) (p .0)) in
-            rw (holds-legal g, holds-back g, p .1, m .format, m .end, length-pairs (h .count) (recordsIn h d) (valuesIn h v))
+            let g = parts-hold h d v e (legal-part h (recordsIn h d) (valuesIn h v) (p .0)) u in
+            rw (holds-legal g, holds-back g, p .1, m .format, m .end, length-pairs (h .count) (recordsIn h d) (valuesIn h v), ← u)

@@ -2,7 +2,7 @@ use native.Mathlib.Omega.{arith}
 use mathlib.Core.Path.{_≡_}
 use lib.ListN.{length, length-map}
 use borrow.Author.Needs.{needs}
-use Rattle.commands.proofs.commands.Seen.{looks, weighs, weighed, refused-late, ruled}
+use Rattle.commands.proofs.commands.Seen.{looks, weighs, refused-late, ruled}
 use Rattle.commands.proofs.commands.carry_out.Statement.{statement}
 use Rattle.commands.proofs.commands.carry_out.Tie as tie
 
@@ -25,7 +25,7 @@ decide-late-requires : tie.Need-decide-late-requires
 decide-late-requires c κs =
     let f = c .before .before in
     let s = f .before .before .before .before .before .before in
-    omega (arith, c .held-room .ensures, weighed (s .args .c) (s .args .buffer .now) _ _ (s .pre) (sixteen s) (f .look-up .ensures))
+    omega (arith, c .held-room .ensures, weighs (s .args .c) (s .args .buffer .now) _ _ (s .pre) (sixteen s) (f .look-up .ensures) .sum)
 
 returns : tie.Need-returns
 returns c =

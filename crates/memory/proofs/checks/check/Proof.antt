@@ -48,7 +48,7 @@ check-part-requires c κs =
 
 returns-4 : tie.Need-returns-4
 returns-4 c =
-    let p = c .before .before in
+    let p = c .before .before .before .before in
     let e = p .before .before .before .before .before .before .before .before in
     let m = e .before .before in
     check-sums _ _ (m .before .before .read-label .ensures) (m .measure .ensures) (e .if2 .left) (p .check-part .ensures) (c .if4 .taken)
@@ -56,7 +56,7 @@ returns-4 c =
 returns-5 : tie.Need-returns-5
 unfolding part
 returns-5 c =
-    let p = c .before .before in
+    let p = c .before .before .before .before in
     let i = p .before .before .before .before .before in
     let z = i .before in
     let e = z .before .before in

@@ -19,15 +19,15 @@ use Rattle.store.proofs.NamespaceLaws.{fresh-within}
 use Rattle.memory.specs.Memory.{Memory, needed, directoryOf, valuesOf}
 use Rattle.memory.proofs.FormatLaws.{formattable}
 use Rattle.memory.proofs.ImageLaws.{length-directory, length-values, Holds}
 use Rattle.commands.specs.Steps.{statusOf}
 use Rattle.commands.specs.Answer.{Answer, answer, pairsAfter}
 use Rattle.commands.specs.Formatting.{format}
 use Rattle.commands.specs.Command.{Post, Outcome, completionOf, serve}
-use Rattle.commands.specs.History.{Call, formatting, commanding, lend, run, leaves, told, stored}
+use Rattle.module.specs.History.{Call, formatting, commanding, polling, lend, run, leaves, told, stored}
 use Rattle.commands.proofs.StepLaws.{status-byte}
 use Rattle.commands.proofs.AnswerLaws.{answer-status}
 use Rattle.commands.proofs.CommandLaws.{past-put, entry-key, serve-is, serve-holds, command-0, command-1, command-2}
 use Rattle.commands.proofs.CommandLaws.{format-holds, format-refused, Kept, serve-kept}
 
 -- ---- a command that numbers 1 and 2 let pass
 
@@ -124,6 +124,7 @@ command-kept s m p e c b h = told-command s m p e c b h .1
 pub told-call : (s : Namespace) (m : Memory) (x : Call) → Holds s m → Holds (told s x (run m x)) (run m x .after .memory)
 told-call s m (commanding p e c b) h = told-command s m p e c b h .0
 told-call s m (formatting i id n) h = format-told i id n m s h
+told-call s m polling h = h
 
 pub told-calls : (s : Namespace) (m : Memory) (xs : List Call) → Holds s m → Holds (stored s m xs) (leaves m xs)
 told-calls s m [] h = h

@@ -7,23 +7,26 @@ use lib.Dec.{eqb}
 use Rattle.wire.specs.Entry.{readCommand}
 use Rattle.wire.specs.Completion.{readCompletion}
 use Rattle.store.specs.Namespace.{Namespace, fresh, withPairs}
-use Rattle.commands.specs.Answer.{pairsAfter}
 use Rattle.memory.specs.Memory.{Memory}
+use Rattle.commands.specs.Answer.{pairsAfter}
 use Rattle.commands.specs.Formatting.{format}
 use Rattle.commands.specs.Command.{Post, Lent, Outcome, command}
+use Rattle.room.specs.Room.{room}
 
--- a call with all that its caller gives: a formatting, or a command with its entry, completion and data buffer
+-- a call with all that its caller gives: a formatting; a command with its entry, completion and data buffer; a poll of the used room
 pub data Call : Type 0 where
   formatting : ℕ → ℕ → ℕ → Call
   commanding : Post → List ℕ → List ℕ → List ℕ → Call
+  polling : Call
 
 abbrev pub lend : List ℕ → List ℕ → Memory → Lent
 lend c b m = record { completion = c; buffer = b; memory = m }
 
--- one call; a formatting has neither completion nor data buffer
+-- one call; a formatting and a poll have neither completion nor data buffer
 abbrev pub run : Memory → Call → Outcome
 run m (formatting i id n) = let f = format i id n m in record { number = f .number; after = lend [] [] (f .after) }
 run m (commanding p e c b) = command p e (lend c b m)
+run m polling = record { number = room m .number; after = lend [] [] m }
 
 -- the memory that calls leave
 abbrev pub leaves : Memory → List Call → Memory
@@ -38,6 +41,7 @@ succeeded o = eqb (o .number) 0 && eqb (readCompletion (o .after .completion) .s
 abbrev pub told : Namespace → Call → Outcome → Namespace
 told s (formatting i id n) o = cond (eqb (o .number) 0) (fresh i id n) s
 told s (commanding p e c b) o = withPairs s (cond (succeeded o) (pairsAfter (readCommand e) b (s .pairs)) (s .pairs))
+told s polling o = s
 
 -- what calls leave stored, where s is stored before them
 abbrev pub stored : Namespace → Memory → List Call → Namespace
