@@ -1,5 +1,6 @@
-/* One call on a store of n keys, for counting its instructions: a command, or kv_used. `driver CALL N` writes that store to standard
-   output; `driver CALL N give` reads it and makes the call once, and `driver CALL N skip` does all but that. */
+/* One call on a store of n keys, for counting its instructions: a command, with Again a Store over a held key, or kv_used. `driver CALL N`
+   writes that store to standard output; `driver CALL N give` reads it and makes the call once, and `driver CALL N skip` does all but
+   that. */
 #include "kv.h"
 
 typedef struct file FILE;
@@ -37,11 +38,11 @@ static void prepare(int opcode, uint32_t i, uint32_t amount) {
     entry[44] = 8;
 }
 
-/* the store, but for the key that a Store is to bring */
-static int filled(int opcode, uint32_t n) {
+/* the store, but for one key: that which a Store is to bring, or none */
+static int filled(uint32_t n, uint32_t missing) {
     kv_format(INDEX, 1, SIZE, directory, sizeof directory, values, sizeof values);
     for (uint32_t i = 0; i < n; i++) {
-        if (opcode == KV_STORE && i == n / 2) continue;
+        if (i == missing) continue;
         prepare(KV_STORE, i, VALUE);
         memset(data, i, VALUE);
         if (!measured()) return 0;
@@ -51,11 +52,11 @@ static int filled(int opcode, uint32_t n) {
 
 int main(int argc, char **argv) {
     if (argc < 3) return 2;
-    int opcode = argv[1][0] == 'E' ? KV_EXIST : argv[1][0] == 'R' ? KV_RETRIEVE : argv[1][0] == 'S' ? KV_STORE
+    int opcode = argv[1][0] == 'E' ? KV_EXIST : argv[1][0] == 'R' ? KV_RETRIEVE : argv[1][0] == 'S' || argv[1][0] == 'A' ? KV_STORE
         : argv[1][0] == 'D' ? KV_DELETE : KV_LIST;
     uint32_t n = atoi(argv[2]);
     if (argc == 3)
-        return !(filled(opcode, n) && fwrite(directory, sizeof directory, 1, stdout) && fwrite(values, SIZE, 1, stdout));
+        return !(filled(n, argv[1][0] == 'S' ? n / 2 : n) && fwrite(directory, sizeof directory, 1, stdout) && fwrite(values, SIZE, 1, stdout));
     if (!fread(directory, sizeof directory, 1, stdin) || !fread(values, SIZE, 1, stdin)) return 1;
     prepare(opcode, n / 2, opcode == KV_LIST ? PAGE : VALUE);
     poll = argv[1][0] == 'U';

@@ -36,7 +36,6 @@ static void history(uint64_t ordinal) {
             rubbish(real.completion, model.completion, sizeof real.completion);
             read_completion(real.completion, one_in(2) ? 16 : below(16 + SPARE));
         } else any_command();
-        if (one_in(12)) any_poll();
     }
     if (intact && one_in(4)) any_again();
     if (intact) any_walk();

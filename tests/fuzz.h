@@ -35,10 +35,10 @@ void number(const char *what, uint64_t got, uint64_t expected);
 uint32_t get16(const uint8_t *p);
 
 /* Each makes a call on both sides and ends the program where they differ. `command` returns the status, or 100h where a number was
- * given. */
+ * given. `format` and `command` poll the used room now and then behind it. */
 uint32_t format(uint32_t index, uint32_t id, uint64_t size, size_t dlen, size_t vlen);
 uint32_t command(size_t entry_len, size_t completion_len, size_t room, size_t dlen, size_t vlen);
-uint32_t used(size_t dlen, size_t vlen); /* returns the number */
+void poll(size_t dlen, size_t vlen);
 uint32_t build(size_t entry_len, uint8_t opcode, uint32_t nsid, const uint8_t *key, size_t key_len, uint32_t dword10,
                uint8_t options);
 struct kv_completion read_completion(const uint8_t *completion, size_t len);
@@ -55,7 +55,6 @@ extern int walking, quiet;            /* within a walk the slices are lent whole
 
 uint32_t any_command(void); /* returns what `command` does */
 int report_commands(void);  /* as `report_calls` */
-void any_poll(void);        /* of the slices whole or, as a fault, of a part */
 void bad_format(void);
 
 /* ---- fuzz_damage.c */

@@ -10,7 +10,7 @@ struct model_store *held = stores, *seen = stores + 1;
 int intact;
 size_t directory_len, values_len;
 uint64_t seed = 1, state, calls;
-static uint64_t statuses[256], numbers[19], nulls;
+static uint64_t statuses[256], numbers[19], nulls, polls, kept[2]; /* polls that the history foretells: of a store without keys, and with */
 static uint32_t fullest[4], longest; /* the most keys held, by q, and the most keys on a page */
 static const char *doing = "";
 
@@ -97,6 +97,7 @@ uint32_t format(uint32_t index, uint32_t id, uint64_t size, size_t dlen, size_t 
         number("legal after formatting", intact, 1);
         number("keys after formatting", held->count, 0);
     }
+    if (one_in(4)) poll(dlen, vlen);
     return got;
 }
 
@@ -113,7 +114,9 @@ uint32_t command(size_t entry_len, size_t completion_len, size_t room, size_t dl
                               queue, phase);
     uint32_t expected = model_command(store, model.entry, entry_len, model.completion, completion_len, model.data, room,
                                       model.directory, model.values, head, queue, phase);
-    if (called(got, expected) != 0) return 0x100;
+    called(got, expected);
+    if (one_in(16)) poll(dlen, vlen);
+    if (got != 0) return 0x100;
     uint32_t status = (real.completion[14] | real.completion[15] << 8) >> 1 & 255;
     statuses[status]++;
     if (store != 0 && store->count > fullest[store->index / 4]) fullest[store->index / 4] = store->count;
@@ -121,7 +124,7 @@ uint32_t command(size_t entry_len, size_t completion_len, size_t room, size_t dl
     return status;
 }
 
-uint32_t used(size_t dlen, size_t vlen) {
+void poll(size_t dlen, size_t vlen) {
     calls++;
     doing = "kv_used";
     struct kv_room a = kv_used(lent(real.directory, dlen), dlen, lent(real.values, vlen), vlen);
@@ -129,12 +132,13 @@ uint32_t used(size_t dlen, size_t vlen) {
     called(a.number, b.number);
     number("used room", a.used, b.used);
     number("keys", a.keys, b.keys);
-    if (intact && dlen == directory_len && vlen == values_len) { /* by the history */
-        number("polled", a.number, 0);
+    polls++;
+    if (intact && dlen == directory_len && vlen == values_len) {
+        number("number by the history", a.number, 0);
         number("used room by the history", a.used, model_used(held));
         number("keys by the history", a.keys, held->count);
+        kept[held->count > 0]++;
     }
-    return a.number;
 }
 
 uint32_t build(size_t entry_len, uint8_t opcode, uint32_t nsid, const uint8_t *key, size_t key_len, uint32_t dword10,
@@ -199,5 +203,8 @@ int report_calls(void) {
         missing += fullest[q] != model_max_keys(4 * q);
     }
     printf(", on a page: %u\n", longest);
+    printf("polls: %llu, as the history has it %llu with no key and %llu with keys, number 18 %llu\n", (unsigned long long)polls,
+           (unsigned long long)kept[0], (unsigned long long)kept[1], (unsigned long long)numbers[18]);
+    missing += (kept[0] == 0) + (kept[1] == 0);
     return missing + (longest < 256); /* a page count that has one byte is to be seen */
 }

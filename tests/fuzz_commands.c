@@ -1,4 +1,4 @@
-/* One command at random, one poll, or one formatting that is to be refused. */
+/* One command at random, or one formatting that is to be refused. */
 #include "fuzz.h"
 
 uint64_t salt;
@@ -136,15 +136,6 @@ uint32_t any_command(void) {
     if (status == 0 && opcode == KV_LIST && one_in(2)) pages(amount);
     if (refused && status == 0) differ("quiet: a change to be refused", status, 0x02);
     return status;
-}
-
-/* ---- the poll */
-
-void any_poll(void) {
-    size_t dlen = directory_len, vlen = values_len;
-    if (fault()) dlen = one_in(2) ? below(66) : below(directory_len + 1);
-    if (fault()) vlen = below(values_len + 1);
-    used(dlen, vlen);
 }
 
 /* ---- formatting */

@@ -117,7 +117,7 @@ void damaged(void) {
     saved = real;
     intact = 0;
     for (uint32_t i = 1 + (one_in(4) ? below(3) : 0); i > 0; i--) damage();
-    if (one_in(2)) used(directory_len, values_len);
+    if (one_in(2)) poll(directory_len, values_len);
     for (uint32_t i = 1 + below(4); i > 0; i--) any_command();
     if (one_in(10)) bad_format();
     if (!full && one_in(10)) format(held->index, held->id, held->size, directory_len, values_len);

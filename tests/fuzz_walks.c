@@ -55,7 +55,7 @@ static int between(int changing, const uint8_t *last, uint32_t last_len) {
     for (uint32_t i = below(3); i > 0; i--) {
         if (one_in(10)) bad_format();
         else if (one_in(10)) read_completion(real.completion, 16);
-        else if (one_in(10)) used(directory_len, values_len);
+        else if (one_in(10)) poll(directory_len, values_len);
         else if (changing && one_in(8)) {
             number("walk: built", build(64, KV_DELETE, held->id, last, last_len, 0, 0), 0);
             changes += command(64, 16, 0, directory_len, values_len) == 0 && noted();

@@ -12,6 +12,7 @@ pub mod OnlyAnswers
 pub mod Past
 pub mod Agreement
 pub mod Unique
+pub mod UniqueBelow
 pub mod Demands
 pub mod StandIns
 pub mod Members

@@ -3,7 +3,6 @@
 use mathlib.Core.Path.{_≡_, refl, _∙_}
 use mathlib.Core.List.{List, [], _∷_}
 use Prim.Native.Nat.{_+_}
-use Rattle.room.specs.declared.gauge.Room.{Room}
 use Rattle.room.specs.Room.{filledBy, room}
 use Rattle.room.proofs.RoomLaws.{room-held}
 use Rattle.module.specs.History.{Call, polling}

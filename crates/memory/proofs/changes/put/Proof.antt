@@ -12,16 +12,18 @@ used-without-requires c κs =
     let p = c .before .before .before .before .before .before .before .pre in
     can-weigh (p .legal) (p .looked)
 
+abbrev start : tie.After-used-without → tie.Start
+start c = c .before .before .before .before .before .before .before .before
+
 -- the new sum can be said by a number of 32 bits
-small : (c : tie.After-used-without) → let s = c .before .before .before .before .before .before .before .before in
-    c .used-without .result + s .args .f .len + length (s .args .value .now) ≤ 65536
-small c = used-small (c .before .before .before .before .before .before .before .before .pre) (c .used-without .ensures)
+small : (c : tie.After-used-without) → c .used-without .result + start c .args .f .len + length (start c .args .value .now) ≤ 65536
+small c = used-small (start c .pre) (c .used-without .ensures)
 
 replace-requires : tie.Need-replace-requires
 replace-requires c κs =
     let t = c .before .before .before in
     let u = t .before .before in
-    can-replace (u .before .before .before .before .before .before .before .before .pre) (t .if1 .taken)
+    can-replace (start u .pre) (t .if1 .taken)
 
 returns : tie.Need-returns
 returns c =
@@ -29,25 +31,25 @@ returns c =
     let r = w .before .before .before .before .before .before in
     let t = r .before .before .before .before in
     let u = t .before .before in
-    let p = u .before .before .before .before .before .before .before .before .pre in
+    let p = start u .pre in
     replaced-image p (t .if1 .taken) (used-is p (u .used-without .ensures)) (r .replace .ensures) (w .write-counts .ensures)
 
 insert-requires : tie.Need-insert-requires
 insert-requires c κs =
     let t = c .before .before .before in
     let u = t .before .before in
-    can-insert (u .before .before .before .before .before .before .before .before .pre) (t .if1 .left)
+    can-insert (start u .pre) (t .if1 .left)
 
 add-write-counts : tie.Need-add-write-counts
 add-write-counts c =
     let t = c .before .before .before .before .before .before .before .before .before .before in
     let u = t .before .before in
-    omega (arith, can-insert (u .before .before .before .before .before .before .before .before .pre) (t .if1 .left))
+    omega (arith, can-insert (start u .pre) (t .if1 .left))
 
 write-counts-requires-2 : tie.Need-write-counts-requires-2
 write-counts-requires-2 c κs =
     let u = c .before .before .before .before .before .before .before .before .before .before .before .before in
-    search (needs, u .before .before .before .before .before .before .before .before .pre .legal .head)
+    search (needs, start u .pre .legal .head)
 
 returns-2 : tie.Need-returns-2
 returns-2 c =
@@ -55,7 +57,7 @@ returns-2 c =
     let i = w .before .before .before .before .before .before .before in
     let t = i .before .before .before .before in
     let u = t .before .before in
-    let p = u .before .before .before .before .before .before .before .before .pre in
+    let p = start u .pre in
     inserted-image p (t .if1 .left) (used-is p (u .used-without .ensures)) (i .insert .ensures) (w .write-counts2 .ensures)
 
 pub put-spec : {M : Type 1} → statement M

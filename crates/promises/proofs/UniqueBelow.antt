@@ -1,0 +1,161 @@
+-- At most one outcome satisfies a contract: the public functions of `octets`, `wire` and `store`. Assumes nothing.
+use mathlib.Core.Path.{_≡_, refl, sym, ap, _∙_}
+use mathlib.Core.List.{List}
+use Prim.Native.Nat.{ℕ}
+use Rattle.octets.proofs.keys as keys
+use Rattle.octets.proofs.runs as runs
+use Rattle.octets.proofs.words as words
+use Rattle.wire.proofs.completions as completions
+use Rattle.wire.proofs.entries as entries
+use Rattle.wire.proofs.pages as pages
+use Rattle.store.specs.Maps.{Pair}
+use Rattle.store.specs.Parts.{Holds}
+use Rattle.store.proofs.formats as formats
+use Rattle.store.proofs.checks as checks
+use Rattle.store.proofs.finds as finds
+use Rattle.store.proofs.records as records
+use Rattle.store.proofs.reads as reads
+use Rattle.store.proofs.verbs as verbs
+use Rattle.promises.specs.Unique.{Determines}
+use Rattle.promises.proofs.Unique.{value, slice}
+
+-- ---- octets::keys
+
+pub compare-one : Determines keys.compare.Kinds.ps keys.compare.Kinds.r keys.compare.Reads.Learnt
+compare-one κs a x y u v p q = value p q
+
+pub widen-one : Determines keys.widen.Kinds.ps keys.widen.Kinds.r keys.widen.Reads.Learnt
+widen-one κs a x y u v p q = value p q
+
+pub less-one : Determines keys.less.Kinds.ps keys.less.Kinds.r keys.less.Reads.Learnt
+less-one κs a x y u v p q = value p q
+
+pub equal-one : Determines keys.equal.Kinds.ps keys.equal.Kinds.r keys.equal.Reads.Learnt
+equal-one κs a x y u v p q = value p q
+
+pub pad-one : Determines keys.pad.Kinds.ps keys.pad.Kinds.r keys.pad.Reads.Learnt
+pad-one κs a x y u v p q = value p q
+
+pub is-clear-one : Determines keys.is_clear.Kinds.ps keys.is_clear.Kinds.r keys.is_clear.Reads.Learnt
+is-clear-one κs a x y u v p q = value p q
+
+pub ends-clear-one : Determines keys.ends_clear.Kinds.ps keys.ends_clear.Kinds.r keys.ends_clear.Reads.Learnt
+ends-clear-one κs a x y u v p q = value p q
+
+-- ---- octets::runs
+
+pub copy-one : Determines runs.copy.Kinds.ps runs.copy.Kinds.r runs.copy.Reads.Learnt
+copy-one κs a x y u v p q = slice p q (λ s. (tt, (s, tt)))
+
+pub copy-at-one : Determines runs.copy_at.Kinds.ps runs.copy_at.Kinds.r runs.copy_at.Reads.Learnt
+copy-at-one κs a x y u v p q = slice p q (λ s. (tt, (s, (tt, tt))))
+
+pub move-up-one : Determines runs.move_up.Kinds.ps runs.move_up.Kinds.r runs.move_up.Reads.Learnt
+move-up-one κs a x y u v p q = slice p q (λ s. (s, (tt, (tt, (tt, tt)))))
+
+pub move-down-one : Determines runs.move_down.Kinds.ps runs.move_down.Kinds.r runs.move_down.Reads.Learnt
+move-down-one κs a x y u v p q = slice p q (λ s. (s, (tt, (tt, (tt, tt)))))
+
+pub clear-one : Determines runs.clear.Kinds.ps runs.clear.Kinds.r runs.clear.Reads.Learnt
+clear-one κs a x y u v p q = slice p q (λ s. (s, (tt, (tt, tt))))
+
+pub all-zero-one : Determines runs.all_zero.Kinds.ps runs.all_zero.Kinds.r runs.all_zero.Reads.Learnt
+all-zero-one κs a x y u v p q = value p q
+
+-- ---- octets::words
+
+pub read16-one : Determines words.read16.Kinds.ps words.read16.Kinds.r words.read16.Reads.Learnt
+read16-one κs a x y u v p q = value p q
+
+pub read32-one : Determines words.read32.Kinds.ps words.read32.Kinds.r words.read32.Reads.Learnt
+read32-one κs a x y u v p q = value p q
+
+pub write8-one : Determines words.write8.Kinds.ps words.write8.Kinds.r words.write8.Reads.Learnt
+write8-one κs a x y u v p q = slice p q (λ s. (s, (tt, (tt, tt))))
+
+pub write16-one : Determines words.write16.Kinds.ps words.write16.Kinds.r words.write16.Reads.Learnt
+write16-one κs a x y u v p q = slice p q (λ s. (s, (tt, (tt, tt))))
+
+pub write32-one : Determines words.write32.Kinds.ps words.write32.Kinds.r words.write32.Reads.Learnt
+write32-one κs a x y u v p q = slice p q (λ s. (s, (tt, (tt, tt))))
+
+pub smaller-one : Determines words.smaller.Kinds.ps words.smaller.Kinds.r words.smaller.Reads.Learnt
+smaller-one κs a x y u v p q = value p q
+
+-- ---- wire::completions
+
+pub write-completion-one : Determines completions.write_completion.Kinds.ps completions.write_completion.Kinds.r completions.write_completion.Reads.Learnt
+write-completion-one κs a x y u v p q = slice p q (λ s. (s, (tt, tt)))
+
+pub read-completion-one : Determines completions.read_completion.Kinds.ps completions.read_completion.Kinds.r completions.read_completion.Reads.Learnt
+read-completion-one κs a x y u v p q = value p q
+
+-- ---- wire::entries
+
+pub read-entry-one : Determines entries.read_entry.Kinds.ps entries.read_entry.Kinds.r entries.read_entry.Reads.Learnt
+read-entry-one κs a x y u v p q = value p q
+
+pub write-entry-one : Determines entries.write_entry.Kinds.ps entries.write_entry.Kinds.r entries.write_entry.Reads.Learnt
+write-entry-one κs a x y u v p q = slice p q (λ s. (s, (tt, tt)))
+
+-- ---- wire::pages
+
+pub page-entry-size-one : Determines pages.page_entry_size.Kinds.ps pages.page_entry_size.Kinds.r pages.page_entry_size.Reads.Learnt
+page-entry-size-one κs a x y u v p q = value p q
+
+pub write-page-entry-one : Determines pages.write_page_entry.Kinds.ps pages.write_page_entry.Kinds.r pages.write_page_entry.Reads.Learnt
+write-page-entry-one κs a x y u v p q = slice p q (λ s. (s, (tt, (tt, tt))))
+
+-- ---- store::formats, checks, finds
+
+pub format-at-one : Determines formats.format_at.Kinds.ps formats.format_at.Kinds.r formats.format_at.Reads.Learnt
+format-at-one κs a x y u v p q = value p q
+
+pub check-part-one : Determines checks.check_part.Kinds.ps checks.check_part.Kinds.r checks.check_part.Reads.Learnt
+check-part-one κs a x y u v p q = value p q
+
+pub find-one : Determines finds.find.Kinds.ps finds.find.Kinds.r finds.find.Reads.Learnt
+find-one κs a x y u v p q = value p q
+
+-- ---- store::records
+
+pub key-length-at-one : Determines records.key_length_at.Kinds.ps records.key_length_at.Kinds.r records.key_length_at.Reads.Learnt
+key-length-at-one κs a x y u v p q = value p q
+
+pub place-at-one : Determines records.place_at.Kinds.ps records.place_at.Kinds.r records.place_at.Reads.Learnt
+place-at-one κs a x y u v p q = value p q
+
+pub value-length-at-one : Determines records.value_length_at.Kinds.ps records.value_length_at.Kinds.r records.value_length_at.Reads.Learnt
+value-length-at-one κs a x y u v p q = value p q
+
+pub owner-at-one : Determines records.owner_at.Kinds.ps records.owner_at.Kinds.r records.owner_at.Reads.Learnt
+owner-at-one κs a x y u v p q = value p q
+
+pub wide-at-one : Determines records.wide_at.Kinds.ps records.wide_at.Kinds.r records.wide_at.Reads.Learnt
+wide-at-one κs a x y u v p q = value p q
+
+pub write-record-one : Determines records.«write_record».Kinds.ps records.«write_record».Kinds.r records.«write_record».Reads.Learnt
+write-record-one κs a x y u v p q = slice p q (λ s. (s, (tt, (tt, (tt, (tt, (tt, tt)))))))
+
+pub raise-places-one : Determines records.raise_places.Kinds.ps records.raise_places.Kinds.r records.raise_places.Reads.Learnt
+raise-places-one κs a x y u v p q = slice p q (λ s. (s, (tt, (tt, (tt, tt)))))
+
+-- ---- store::reads
+
+pub copy-value-one : Determines reads.copy_value.Kinds.ps reads.copy_value.Kinds.r reads.copy_value.Reads.Learnt
+copy-value-one κs a x y u v p q = (p .0 ∙ sym (q .0), ap (λ (b : List ℕ). (tt, (tt, (tt, (b, (tt, tt)))))) (p .1 ∙ sym (q .1)))
+
+-- ---- store::verbs: an equation for each of the two parts
+
+parts : {U : Type 0} {id n l : ℕ} {m : List Pair} {s t vs ws : List ℕ} → Holds id n l m s vs → Holds id n l m t ws
+    → (slices : List ℕ → List ℕ → U) → (_≡_ {A = Unit {0}} tt tt) × (slices s vs ≡ slices t ws)
+parts p q slices = (refl, λ i. slices ((p .records ∙ sym (q .records)) i) ((p .values ∙ sym (q .values)) i))
+
+pub insert-one : Determines verbs.insert.Kinds.ps verbs.insert.Kinds.r verbs.insert.Reads.Learnt
+insert-one κs a x y u v p q = parts p q (λ s vs. (s, (vs, (tt, (tt, (tt, (tt, (tt, (tt, tt)))))))))
+
+pub remove-one : Determines verbs.remove.Kinds.ps verbs.remove.Kinds.r verbs.remove.Reads.Learnt
+remove-one κs a x y u v p q = parts p q (λ s vs. (s, (vs, (tt, (tt, (tt, (tt, tt)))))))
+
+pub replace-one : Determines verbs.replace.Kinds.ps verbs.replace.Kinds.r verbs.replace.Reads.Learnt
+replace-one κs a x y u v p q = parts p q (λ s vs. (s, (vs, (tt, (tt, (tt, (tt, (tt, (tt, tt)))))))))
