@@ -110,6 +110,7 @@ pub record CanErase (k : Checked) (f : Found) (d v : List ℕ) : Type 0 where
 abbrev pub roomAt : Checked → Found → List ℕ → ℕ
 roomAt k f d = cond (f .held) (f .len + valueLength (drop (32 * f .slot) (recordsAt k d))) 0
 
+-- it can be read, and taken off the sum
 pub record CanWeigh (k : Checked) (f : Found) (d : List ℕ) : Type 0 where
   pub look : CanLook k d
   pub slot : f .held ≡ true → f .slot < k .label .count

@@ -38,7 +38,7 @@ pub fn write_directory_head(directory: &mut [u8], label: Label)
     clear(directory, 20, 44);
 }
 
-// Of these numbers alone a command makes others.
+// Of the numbers in the head these are the two that a command changes.
 pub fn write_counts(directory: &mut [u8], count: u32, used: u32)
     requires { ⌜ 64 ≤ length (now directory) ⌝ }
     ensures { λ _. ⌜ now (directory .exit) ≡ put 12 (bytes 4 count ++ bytes 4 used) (now (directory .entry)) ⌝ }

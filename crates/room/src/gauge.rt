@@ -4,6 +4,7 @@ ghost use mathlib.Core.Path.{_≡_};
 ghost use Rattle.memory.specs.Memory.{memory};
 ghost use Rattle.room.specs.Room.{room};
 
+// Beside a number other than 0 the rest is 0.
 #[repr(C)]
 pub struct Room {
     pub number: u32,
