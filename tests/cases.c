@@ -7,6 +7,9 @@ void *memcpy(void *, const void *, size_t);
 void *memset(void *, int, size_t);
 int memcmp(const void *, const void *, size_t);
 
+_Static_assert(sizeof(struct kv_room) == 12 && _Alignof(struct kv_room) == 4, "kv_room");
+_Static_assert(offsetof(struct kv_room, number) == 0 && offsetof(struct kv_room, used) == 4 && offsetof(struct kv_room, keys) == 8, "kv_room");
+
 enum { SPARE = 8 };
 
 static uint8_t directory[64 + 32 * 1024 + SPARE], values[65536 + SPARE], data[4096], completion[16], entry[64];

@@ -1,8 +1,8 @@
 // The device's calls, in the order of `include/kv.h`.
 use commands::commands::command;
 use commands::formatting::format;
-use room::gauge::Room;
-use room::gauge::used_room;
+use room::polls::Room;
+use room::polls::used_room;
 ghost use mathlib.Core.Path.{_≡_};
 ghost use Rattle.memory.specs.Memory.{memory};
 ghost use Rattle.commands.specs.Formatting.{formatted, format};

@@ -21,9 +21,9 @@ use Rattle.commands.specs.Steps.{steps, statusOf}
 use Rattle.commands.specs.Answer.{answer}
 use Rattle.commands.specs.Formatting.{format}
 use Rattle.commands.specs.Command.{Post, completionOf, Lent, respond, serve, outcome}
-use Rattle.room.specs.declared.gauge.Room.{Room}
+use Rattle.room.specs.declared.polls.Room.{Room}
 use Rattle.room.specs.Room.{room}
-use Rattle.room.proofs.RoomLaws.{room-held}
+use Rattle.room.proofs.PollLaws.{room-held}
 use Rattle.module.specs.History.{Call, formatting, commanding, polling, lend, run}
 use Rattle.commands.proofs.CommandLaws.{entry-key, serve-is, serve-holds, command-0, command-1, command-2, format-holds, format-refused}
 use Rattle.promises.specs.Histories.{SameNeeded, begun}

@@ -4,7 +4,7 @@ use mathlib.Core.Path.{_≡_, refl, _∙_}
 use mathlib.Core.List.{List, [], _∷_}
 use Prim.Native.Nat.{_+_}
 use Rattle.room.specs.Room.{filledBy, room}
-use Rattle.room.proofs.RoomLaws.{room-held}
+use Rattle.room.proofs.PollLaws.{room-held}
 use Rattle.module.specs.History.{Call, polling}
 use Rattle.promises.specs.Histories.{Start, begun, memoryAfter, storedAfter}
 use Rattle.promises.specs.Requests.{call}

@@ -13,7 +13,7 @@ use Rattle.commands.specs.Formatting.{Formatted, formatted, format}
 use Rattle.commands.specs.Command.{Post, Lent, lent, Response, response, Outcome, outcome, command}
 use Rattle.commands.proofs.formatting as formatting
 use Rattle.commands.proofs.commands as commands
-use Rattle.room.proofs.gauge as gauge
+use Rattle.room.proofs.polls as polls
 use Rattle.host.specs.Build.{Built, built, build}
 use Rattle.module.proofs.kv_format as kv_format
 use Rattle.module.proofs.kv_command as kv_command
@@ -104,7 +104,7 @@ command-one κs a x y u v p q =
 
 -- ---- room
 
-pub used-room-one : Determines gauge.used_room.Kinds.ps gauge.used_room.Kinds.r gauge.used_room.Reads.Learnt
+pub used-room-one : Determines polls.used_room.Kinds.ps polls.used_room.Kinds.r polls.used_room.Reads.Learnt
 used-room-one κs a x y u v p q = value p q
 
 -- ---- the same with the equation written out and taken apart: the exported functions that write slices, so that each thing yielded

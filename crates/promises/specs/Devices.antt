@@ -10,7 +10,7 @@ use Rattle.promises.specs.Histories.{Start, System}
 abbrev pub Device : Type 0
 Device = List Call → Memory → Call → Outcome
 
--- the one that the contracts of `kv_format` and `kv_command` name
+-- the one that the contracts of `kv_format`, `kv_command` and `kv_used` name
 abbrev pub real : Device
 real before m x = run m x
 

@@ -4,7 +4,7 @@ use mathlib.Core.List.{List}
 use lib.ListN.{length}
 use Rattle.store.specs.Maps.{Pair, used}
 use Rattle.memory.specs.Memory.{Memory, pairsOf, legal}
-use Rattle.room.specs.declared.gauge.Room.{Room}
+use Rattle.room.specs.declared.polls.Room.{Room}
 
 -- the used room of a map, and how many keys it has
 abbrev pub filledBy : List Pair → Room

@@ -1,2 +1,2 @@
 // How full the store is, for a host that asks between two commands.
-pub mod gauge;
+pub mod polls;

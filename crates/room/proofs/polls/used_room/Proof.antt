@@ -1,7 +1,7 @@
 use borrow.Author.Needs.{needs}
-use Rattle.room.proofs.RoomLaws.{illegal-room, legal-room}
-use Rattle.room.proofs.gauge.used_room.Statement.{statement}
-use Rattle.room.proofs.gauge.used_room.Tie as tie
+use Rattle.room.proofs.PollLaws.{illegal-room, legal-room}
+use Rattle.room.proofs.polls.used_room.Statement.{statement}
+use Rattle.room.proofs.polls.used_room.Tie as tie
 
 returns : tie.Need-returns
 returns c = illegal-room _ _ (c .before .before .check .ensures) (c .if1 .taken)
