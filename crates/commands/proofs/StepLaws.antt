@@ -4,12 +4,12 @@ use mathlib.Core.Path.{_≡_, refl}
 use mathlib.Core.Bool.{Bool, true, false, not, _&&_, _||_, and-true}
 use Prim.Native.Nat.{ℕ, _+_, _-_, _≤_, _<_}
 use native.Mathlib.Omega.{arith}
-use lib.Dec.{leb, ltb, eqb}
+use lib.Dec.{leb, ltb, eqb, ltb→lt}
 use lib.ListN.{drop}
 use borrow.Author.Tests.{ltb-false, eqb-true, eqb-false, not-false}
 use Rattle.octets.specs.Octets.{allZero}
 use Rattle.octets.specs.Tests.{firstOf}
-use Rattle.octets.proofs.TestLaws.{neither, None, none-holds, none-parts, first-below}
+use Rattle.octets.proofs.TestLaws.{neither, None, none-holds, none-parts, first-each}
 use Rattle.wire.specs.declared.entries.Command.{Command}
 use Rattle.wire.specs.Entry.{keyOf, isStore, isRetrieve, isList, isDelete, isExist, known, ifPresent, ifAbsent}
 use Rattle.store.specs.Namespace.{Namespace}
@@ -100,9 +100,15 @@ passed v u c none =
 
 pub status-byte : (ok : Bool) (s : Namespace) (c : Command) (n : ℕ) → statusOf ok s c n < 256
 unfolding statusOf steps
-status-byte ok s c n = first-below 256 (steps (viewOf ok s n) (stockOf s (keyOf c)) c) (omega arith) tt
+status-byte ok s c n = ltb→lt _ 256 (first-each (λ k. ltb k 256) (steps (viewOf ok s n) (stockOf s (keyOf c)) c) tt tt)
 
--- memory that is not legal is answered with 06h
+-- memory that is not legal is answered with 06h, and none other is
 pub illegal : (s : Namespace) (c : Command) (n : ℕ) → statusOf false s c n ≡ 0x06
 unfolding statusOf steps
 illegal s c n = refl
+
+pub never-06h : (s : Namespace) (c : Command) (n : ℕ) → statusOf true s c n ≡ 0x06 → ⊥
+unfolding statusOf steps
+never-06h s c n e =
+    let other : ℕ → Bool = λ k. not (eqb k 0x06) in
+    rw e at (first-each other (drop 1 (steps (viewOf true s n) (stockOf s (keyOf c)) c)) tt tt)

@@ -22,9 +22,9 @@ use Rattle.memory.proofs.ImageLaws.{Holds, legal-holds, part-held, form
 
 -- ---- the check's answer
 
-pub checked-legal : (m : Memory) → checked m .ok ≡ legal m
+pub ok-is : {k : Checked} (m : Memory) → k ≡ checked m → k .ok ≡ legal m
 unfolding checked
-checked-legal m = elim (known (legal m)) [ holds e ↦ rw e | fails e ↦ rw e ]
+ok-is m e = elim (known (legal m)) [ holds q ↦ rw (e, q) | fails q ↦ rw (e, q) ]
 
 module _ {s : Namespace} {d v : List ℕ} (h : Holds s (memory d v)) where
   records-at : recordsAt (numbersOf s) d ≡ recordsIn (labelOf s) d
@@ -49,7 +49,7 @@ module _ {s : Namespace} {d v : List ℕ} (h : Holds s (memory d v)) where
 pub legal-checked : {k : Checked} (d v : List ℕ) → k ≡ checked (memory d v) → k .ok ≡ true → Legal k d v
 unfolding checked
 legal-checked {k} d v e ok =
-    let l : legal (memory d v) ≡ true = sym (checked-legal (memory d v)) ∙ ap (λ (x : Checked). x .ok) (sym e) ∙ ok in
+    let l : legal (memory d v) ≡ true = sym (ok-is (memory d v) e) ∙ ok in
     let h = legal-holds (memory d v) l in
     let is : k ≡ numbersOf (namespaceOf (memory d v)) = rw l at e in
     record { look = rw is (look-at h); head = omega (arith, formattable-held h .directory); fits = rw is (formattable-held h .values); legal = l; is = is }

@@ -2,9 +2,9 @@
 use mathlib.Core.Path.{_≡_, refl, sym, ap, _∙_}
 use mathlib.Core.Bool.{Bool, true, false, cond, not, _&&_, _||_, and-true, and-assoc}
 use mathlib.Core.List.{List, [], _∷_, _++_}
-use Prim.Native.Nat.{ℕ, _<_}
+use Prim.Native.Nat.{ℕ}
 use native.Mathlib.Omega.{arith}
-use lib.Dec.{T, eqb, ltb, ltb→lt}
+use lib.Dec.{T, eqb}
 use Rattle.octets.specs.Tests.{and, all, Row, firstOf}
 
 -- a test holds or fails: the split that keeps the equation
@@ -104,9 +104,9 @@ none-parts (r ∷ rs) qs n =
     let p = none-parts rs qs (n .1) in
     ((n .0, p .0), p .1)
 
--- each number of the table is below m, so the first one is
-pub first-below : (m : ℕ) (rs : List Row) → 0 < m → T (each (λ n. ltb n m) rs) → firstOf rs < m
-first-below m [] h t = h
-first-below m (r ∷ rs) h t =
-    let u = T-both (ltb (r .number) m) (each (λ n. ltb n m) rs) t in
-    elim (known (r .when)) [ holds e ↦ rw e (ltb→lt (r .number) m (u .0)) | fails e ↦ rw e (first-below m rs h (u .1)) ]
+-- what 0 and each number of the table pass, the first one passes
+pub first-each : (f : ℕ → Bool) (rs : List Row) → T (f 0) → T (each f rs) → T (f (firstOf rs))
+first-each f [] z t = z
+first-each f (r ∷ rs) z t =
+    let u = T-both (f (r .number)) (each f rs) t in
+    elim (known (r .when)) [ holds e ↦ rw e (u .0) | fails e ↦ rw e (first-each f rs z (u .1)) ]

@@ -9,14 +9,14 @@ use Rattle.memory.specs.declared.checks.Checked.{Checked}
 use Rattle.memory.specs.Memory.{Memory, memory, legal}
 use Rattle.memory.specs.Checks.{checked}
 use Rattle.memory.proofs.ImageLaws.{Holds, holds-back, holds-legal}
-use Rattle.memory.proofs.LegalLaws.{checked-legal, legal-checked}
+use Rattle.memory.proofs.LegalLaws.{ok-is, legal-checked}
 use Rattle.room.specs.Room.{filledBy, room}
 
 module _ {k : Checked} (d v : List ℕ) (e : k ≡ checked (memory d v)) where
   pub illegal-room : not (k .ok) ≡ true → record { number = 18; used = 0; keys = 0 } ≡ room (memory d v)
   unfolding room
   illegal-room q =
-      let l : legal (memory d v) ≡ false = sym (ap (λ (x : Checked). x .ok) e ∙ checked-legal (memory d v)) ∙ not-true (k .ok) q in
+      let l : legal (memory d v) ≡ false = sym (ok-is (memory d v) e) ∙ not-true (k .ok) q in
       rw l
 
   pub legal-room : not (k .ok) ≡ false → record { number = 0; used = k .label .used; keys = k .label .count } ≡ room (memory d v)

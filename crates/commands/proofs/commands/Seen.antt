@@ -20,7 +20,7 @@ use Rattle.store.proofs.RankLaws.{has-present}
 use Rattle.memory.specs.declared.checks.Checked.{Checked}
 use Rattle.memory.specs.Memory.{memory, namespaceOf, pairsOf, legal}
 use Rattle.memory.specs.Checks.{checked, keysAt, roomAt, Looked, CanLook, CanWeigh}
-use Rattle.memory.proofs.LegalLaws.{checked-legal, legal-checked}
+use Rattle.memory.proofs.LegalLaws.{ok-is, legal-checked}
 use Rattle.memory.proofs.RoomLaws.{looked-in, room-is, can-weigh}
 use Rattle.commands.specs.declared.steps.View.{View}
 use Rattle.commands.specs.declared.steps.Stock.{Stock}
@@ -52,14 +52,11 @@ module _ (c : Command) (b d v : List ℕ) where
   -- ---- steps a to h
 
   module _ {k : Checked} (ek : k ≡ checked (memory d v)) {st : ℕ} (e : st ≡ firstOf (stepsToH (view k (length b)) c)) where
-    ok-is : k .ok ≡ legal (memory d v)
-    ok-is = rw ek (checked-legal (memory d v))
-
     early-is : st ≡ firstOf (stepsToH (viewOf (legal (memory d v)) s (length b)) c)
     early-is =
         elim (known (legal (memory d v))) [
-          | holds o ↦ e ∙ rw (legal-checked d v ek (ok-is ∙ o) .is, o)
-          | fails o ↦ e ∙ rw (ok-is, o)
+          | holds o ↦ e ∙ rw (legal-checked d v ek (ok-is (memory d v) ek ∙ o) .is, o)
+          | fails o ↦ e ∙ rw (ok-is (memory d v) ek, o)
         ]
 
     pub refused-early : (st ≡ 0 → ⊥) → response st 0 b d v ≡ respond c b (memory d v)
@@ -71,7 +68,7 @@ module _ (c : Command) (b d v : List ℕ) where
     pub admitted : st ≡ 0 → Admitted c k (length b) d v
     admitted q =
         elim (known (legal (memory d v))) [
-          | holds o ↦ record { legal = legal-checked d v ek (ok-is ∙ o); early = rw o at (sym early-is ∙ q) }
+          | holds o ↦ record { legal = legal-checked d v ek (ok-is (memory d v) ek ∙ o); early = rw o at (sym early-is ∙ q) }
           | fails o ↦ absurd (omega (arith, rw o at (sym early-is ∙ q)))
         ]
 
