@@ -20,3 +20,15 @@ run() {
     [ -x "$emulator" ] || emulator=
     ${emulator:+"$emulator"} "$tools/lib/ld-linux-x86-64.so.2" --library-path "$tools/lib" "$@"
 }
+
+# symbols ARCHIVE...: the names that an archive's index has, on a machine whose `nm` may not know x86-64. Behind eight bytes and a
+# header, in which ten decimal digits from byte 56 on are the index's size, stand how many names there are, a place for each, all with
+# the highest byte first, and the names with a zero byte behind each
+symbols() {
+    local archive size count
+    for archive; do
+        size=$(head -c 66 "$archive" | tail -c 10)
+        count=$((0x$(head -c 72 "$archive" | tail -c 4 | od -An -tx1 | tr -d ' ')))
+        head -c $((68 + size)) "$archive" | tail -c $((size - 4 - 4 * count)) | tr '\0' '\n' | sed '/^$/d'
+    done
+}

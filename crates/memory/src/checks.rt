@@ -55,14 +55,15 @@ pub fn check(directory: &[u8], values: &[u8]) -> Checked
     if m.number != 0 {
         return NOT_LEGAL;
     }
-    if !all_zero(&directory[20..HEAD]) {
-        return NOT_LEGAL;
-    }
     let end = m.end;
     let size = label.size as usize;
     let format = m.format;
     let sums = check_part(&directory[HEAD..end], &values[..size], label, format);
     if !sums.ok | (sums.used != label.used) {
+        return NOT_LEGAL;
+    }
+    // last, as the pass over the records is shorter code then
+    if !all_zero(&directory[20..HEAD]) {
         return NOT_LEGAL;
     }
     Checked {

@@ -78,7 +78,7 @@ fn check_records(records: &[u8], id: u32, count: u32, f: Format) -> Sums
         len: 0,
     };
     let mut total: u32 = 0;
-    let mut used: u32 = 0;
+    let mut keys: u32 = 0;
     let mut j = 0;
     while j < count {
         let r = slot_at(records, j);
@@ -86,14 +86,14 @@ fn check_records(records: &[u8], id: u32, count: u32, f: Format) -> Sums
             return NO_SUMS;
         }
         total += r.valuelength;
-        used += r.keylength + r.valuelength;
+        keys += r.keylength;
         before = r.key;
         j += 1;
     }
     Sums {
         ok: true,
         total,
-        used,
+        used: keys + total,
     }
 }
 

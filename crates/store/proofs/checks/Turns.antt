@@ -15,33 +15,34 @@ use Rattle.store.specs.declared.formats.Format.{Format}
 use Rattle.store.specs.declared.checks.Slot.{Slot}
 use Rattle.store.specs.Checks.{noSums, slotIn, slotTests, firstWide, passOver}
 
--- the invariant: j records are passed, with these sums, and w is the last key
-pub record PassedOver (n id : ℕ) (f : Format) (s : List ℕ) (w : Wide) (total used j : ℕ) : Type 0 where
+-- the invariant: j records are passed, with the sums of their value and key lengths, and w is the last key
+pub record PassedOver (n id : ℕ) (f : Format) (s : List ℕ) (w : Wide) (total keys j : ℕ) : Type 0 where
   pub within : j ≤ n
   pub total-small : total ≤ 4096 * j
-  pub used-small : used ≤ 4112 * j
-  pub is : passOver (n - j) id f total used w (drop (32 * j) s) ≡ passOver n id f 0 0 firstWide s
+  pub keys-small : keys ≤ 16 * j
+  pub is : passOver (n - j) id f total (keys + total) w (drop (32 * j) s) ≡ passOver n id f 0 0 firstWide s
 
 pub over-none : (n id : ℕ) (f : Format) (s : List ℕ) → PassedOver n id f s firstWide 0 0 0
-over-none n id f s = record { within = omega arith; total-small = omega arith; used-small = omega arith; is = rw sub-zero }
+over-none n id f s = record { within = omega arith; total-small = omega arith; keys-small = omega arith; is = rw sub-zero }
 
-pub over-done : {n id : ℕ} {f : Format} {s : List ℕ} {w : Wide} {total used j : ℕ} → PassedOver n id f s w total used j → n ≤ j
-    → record { ok = true; total = total; used = used } ≡ passOver n id f 0 0 firstWide s
+pub over-done : {n id : ℕ} {f : Format} {s : List ℕ} {w : Wide} {total keys j : ℕ} → PassedOver n id f s w total keys j → n ≤ j
+    → record { ok = true; total = total; used = keys + total } ≡ passOver n id f 0 0 firstWide s
 unfolding passOver
-over-done {n} {id} {f} {s} {w} {total} {used} {j} i l =
+over-done {n} {id} {f} {s} {w} {total} {keys} {j} i l =
     let e : n - j ≡ 0 = omega arith in
     rw e at (i .is)
 
 -- the record of slot j
-module _ {n id : ℕ} {f : Format} {s : List ℕ} {w : Wide} {total used j : ℕ} (i : PassedOver n id f s w total used j) (l : j < n)
+module _ {n id : ℕ} {f : Format} {s : List ℕ} {w : Wide} {total keys j : ℕ} (i : PassedOver n id f s w total keys j) (l : j < n)
     (r : Slot) (e : r ≡ slotIn (drop (32 * j) s)) (ok : Bool) (t : ok ≡ all (slotTests id f total w r)) where
   turn : passOver n id f 0 0 firstWide s
-      ≡ cond ok (passOver (n - (j + 1)) id f (total + r .valuelength) (used + (r .keylength + r .valuelength)) (r .key) (drop (32 * (j + 1)) s)) noSums
+      ≡ cond ok (passOver (n - (j + 1)) id f (total + r .valuelength) (keys + r .keylength + (total + r .valuelength)) (r .key) (drop (32 * (j + 1)) s)) noSums
   unfolding passOver
   turn =
       let k : n - j ≡ suc (n - (j + 1)) = omega arith in
       let d : 32 * j + 32 ≡ 32 * (j + 1) = omega arith in
-      sym (i .is) ∙ rw (k, ← e, ← t, drop-drop 32 (32 * j) s, d)
+      let u : keys + total + (r .keylength + r .valuelength) ≡ keys + r .keylength + (total + r .valuelength) = omega arith in
+      sym (i .is) ∙ rw (k, ← e, ← t, u, drop-drop 32 (32 * j) s, d)
 
   pub slot-refused : not ok ≡ true → noSums ≡ passOver n id f 0 0 firstWide s
   slot-refused q = sym (rw (not-true ok q) at turn)
@@ -53,7 +54,7 @@ module _ {n id : ℕ} {f : Format} {s : List ℕ} {w : Wide} {total used j : ℕ
         (leb-true _ _ (a .1 .0), leb-true _ _ (a .1 .1 .0))
 
     pub over-more : f .keymax ≤ 16 → f .valuemax ≤ 4096
-        → PassedOver n id f s (r .key) (total + r .valuelength) (used + (r .keylength + r .valuelength)) (j + 1)
+        → PassedOver n id f s (r .key) (total + r .valuelength) (keys + r .keylength) (j + 1)
     over-more k v =
         let b = slot-short in
-        record { within = omega arith; total-small = omega arith; used-small = omega arith; is = sym (rw (not-false ok q) at turn) }
+        record { within = omega arith; total-small = omega arith; keys-small = omega arith; is = sym (rw (not-false ok q) at turn) }

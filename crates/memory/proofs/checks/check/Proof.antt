@@ -24,50 +24,50 @@ passed : (c : tie.Else2) → let m = c .before .before in
     Measures (h .index) (h .id) (h .size) (length (a .directory .now)) (length (a .values .now)) (m .measure .result)
 passed c = measures _ (c .before .before .measure .ensures) (c .if2 .left)
 
-returns-3 : tie.Need-returns-3
-unfolding part
-returns-3 c = check-zeros _ _ (c .before .all-zero .ensures) (c .if3 .taken)
-
 sub-check-part : tie.Need-sub-check-part
-sub-check-part c = omega (arith, passed (c .before .before .before .before .before))
+sub-check-part c = omega (arith, passed (c .before .before))
 
 part-check-part-start : tie.Need-part-check-part-start
-part-check-part-start c = omega (arith, passed (c .before .before .before .before .before))
+part-check-part-start c = omega (arith, passed (c .before .before))
 
 part-check-part-end : tie.Need-part-check-part-end
-part-check-part-end c = omega (arith, passed (c .before .before .before .before .before))
+part-check-part-end c = omega (arith, passed (c .before .before))
 
 slice-aggregate-check-part : tie.Need-slice-aggregate-check-part
-slice-aggregate-check-part c = sym (length-take-le _ _ (passed (c .before .before .before .before .before .before .before) .formattable .values))
+slice-aggregate-check-part c = sym (length-take-le _ _ (passed (c .before .before .before .before) .formattable .values))
 
 check-part-requires : tie.Need-check-part-requires
 check-part-requires c κs =
-    let e = c .before .before .before .before .before .before .before in
+    let e = c .before .before .before .before in
     let m = e .before .before in
     check-asks _ _ (m .before .before .read-label .ensures) (m .measure .ensures) (e .if2 .left)
 
-returns-4 : tie.Need-returns-4
-returns-4 c =
+returns-3 : tie.Need-returns-3
+returns-3 c =
     let p = c .before .before .before .before in
-    let e = p .before .before .before .before .before .before .before .before in
+    let e = p .before .before .before .before .before in
     let m = e .before .before in
-    check-sums _ _ (m .before .before .read-label .ensures) (m .measure .ensures) (e .if2 .left) (p .check-part .ensures) (c .if4 .taken)
+    check-sums _ _ (m .before .before .read-label .ensures) (m .measure .ensures) (e .if2 .left) (p .check-part .ensures) (c .if3 .taken)
+
+returns-4 : tie.Need-returns-4
+unfolding part
+returns-4 c = check-zeros _ _ (c .before .all-zero .ensures) (c .if4 .taken)
 
 returns-5 : tie.Need-returns-5
 unfolding part
 returns-5 c =
-    let p = c .before .before .before .before in
-    let i = p .before .before .before .before .before in
-    let z = i .before in
-    let e = z .before .before in
+    let z = c .before in
+    let i = z .before .before in
+    let p = i .before .before .before .before in
+    let e = p .before .before .before .before .before in
     let m = e .before .before in
     let b = m .before .before .before .before .before in
     check-passed _ _ (m .before .before .read-label .ensures) (m .measure .ensures) (e .if2 .left) (p .check-part .ensures)
-    (z .all-zero .ensures) (i .if3 .left) (c .if4 .left) (λ i l. b .shared-slice-known .given i .fits)
+    (z .all-zero .ensures) (c .if4 .left) (i .if3 .left) (λ i l. b .shared-slice-known .given i .fits)
 
 pub check-spec : {M : Type 1} → statement M
 check-spec =
     tie.close
-    (tie.spec returns (λ c. search needs) (λ c. search needs) (λ c. search needs) returns-2 (λ c. search needs) (λ c. search needs)
-    (λ c. search needs) (λ c. search needs) returns-3 (λ c. search needs) sub-check-part part-check-part-start part-check-part-end
-    slice-aggregate-check-part check-part-requires returns-4 returns-5)
+    (tie.spec returns (λ c. search needs) (λ c. search needs) (λ c. search needs) returns-2 (λ c. search needs) sub-check-part
+    part-check-part-start part-check-part-end slice-aggregate-check-part check-part-requires returns-3 (λ c. search needs) (λ c. search needs)
+    (λ c. search needs) (λ c. search needs) returns-4 returns-5)

@@ -6,10 +6,10 @@ use Rattle.store.proofs.checks.check_records.Statement.{statement}
 use Rattle.store.proofs.checks.check_records.Tie as tie
 
 abbrev Inv-loop : tie.InvT-loop
-Inv-loop records id count f before₀ total₀ used₀ j₀ before total used j = PassedOver count id f records before total used j
+Inv-loop records id count f before₀ total₀ keys₀ j₀ before total keys j = PassedOver count id f records before total keys j
 
 abbrev μ-loop : tie.MeasureT-loop
-μ-loop records id count f before₀ total₀ used₀ j₀ before total used j = count - j
+μ-loop records id count f before₀ total₀ keys₀ j₀ before total keys j = count - j
 
 -- a record that passed is short
 short : (c : tie.Else1 Inv-loop μ-loop) → let r = c .before .before .slot-at .result in (r .keylength ≤ 16) × (r .valuelength ≤ 4096)
@@ -21,5 +21,5 @@ short c =
 pub check-records-spec : {M : Type 1} → statement M
 check-records-spec =
     tie.close (tie.spec Inv-loop μ-loop (λ c. over-none _ _ _ _) (λ c κs. search needs) (λ c κs. search needs) (λ c. search slot-refused)
-    (λ c. omega (arith, short (c .before))) (λ c. omega (arith, short (c .before .before))) (λ c. omega (arith, short (c .before .before)))
-    (λ c. omega arith) (λ c. omega arith) (λ c. search over-more) (λ c. search over-done))
+    (λ c. omega (arith, short (c .before))) (λ c. omega (arith, short (c .before .before))) (λ c. omega arith) (λ c. omega arith)
+    (λ c. search over-more) (λ c. omega arith) (λ c. search over-done))

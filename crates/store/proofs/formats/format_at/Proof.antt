@@ -1,6 +1,6 @@
 use mathlib.Core.Path.{_≡_, ap, _∙_}
 use mathlib.Core.List.{List, [], _∷_}
-use Prim.Native.Nat.{ℕ, zero, suc, _+_, _<_}
+use Prim.Native.Nat.{ℕ, zero, suc, _+_, _-_, _≤_, _<_}
 use native.Mathlib.Nat.{zero-add}
 use native.Mathlib.Omega.{arith}
 use lib.ListN.{getD}
@@ -23,5 +23,18 @@ module _ {A : Type 0} (f : ℕ → A) (d : A) where
   at : (n k : ℕ) → k < n → getD (values 0 n) k d ≡ f k
   at n k h = from 0 n k h ∙ ap f (zero-add k)
 
+-- the rows before the one that is looked for are passed by
+abbrev Inv-loop : tie.InvT-loop
+Inv-loop index rows i₀ i = i ≤ index
+
+abbrev μ-loop : tie.MeasureT-loop
+μ-loop index rows i₀ i = 15 - i
+
+returns : tie.Need-returns Inv-loop μ-loop
+returns c = at formatOf _ 16 (c .before .before .before .loop .i) (omega arith) ∙ ap formatOf (c .if1 .taken)
+
 pub format-at-spec : {M : Type 1} → statement M
-format-at-spec = tie.close (tie.spec (λ c. search needs) (λ c. search needs) (λ c. at formatOf _ 16 (c .before .args .index) (search needs)))
+format-at-spec =
+    tie.close
+    (tie.spec Inv-loop μ-loop (λ c. omega arith) (λ c. search needs) (λ c. search needs) (λ c. search needs) returns (λ c. search needs)
+    (λ c. search needs) (λ c. omega arith) (λ c. search needs) (λ c. ap formatOf {x = 15} (omega arith)))
