@@ -1,6 +1,6 @@
 /* The deepest stack of each exported call, arguments and return address with it. Two stores full to the last byte, one of the most keys and
  * one of the longest values: every command on them, carried out and refused by every step, and on damaged memory. It fails above what the
- * smallest board has, and where a List leaves a key that it listed on the stack. */
+ * smallest board has, and where a List from the start leaves a key that it listed on the stack. */
 #include "kv.h"
 #include "paint.h"
 
