@@ -71,7 +71,7 @@ static int tally(uint32_t *count) {
 
 /* how full the store is; the tally and the poll count the same tags */
 static int bar(uint32_t tags) {
-    struct kv_room room = kv_used(directory, sizeof directory, values, sizeof values);
+    struct kv_room room = kv_used(NAMESPACE, directory, sizeof directory, values, sizeof values);
     if (room.number != KV_DONE || room.keys != tags) {
         printf("poll: number %u, %u tags\n", room.number, room.keys);
         return 0;

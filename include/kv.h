@@ -4,8 +4,8 @@
  * slices lent to one call must not overlap, and none is kept after the call.
  *
  * The store lives in two lent slices, `directory` and `values`; every call is to be lent the same two, whole, and nothing else
- * writes them in between. Of `directory` 64 + 32 x max keys bytes are needed, of `values` as many as the size; bytes past the
- * needed part change no outcome and are never written.
+ * writes them in between. They hold one namespace or two. Of `directory` 64 bytes are needed and 32 for each key that the formats allow,
+ * of `values` as many as the sizes come to; bytes past the needed part change no outcome and are never written.
  *
  * Each call gives a number. 0 is "done". Any other number is a refusal that has written nothing at all, and every other field that the
  * call gives is 0 then. */
@@ -26,9 +26,11 @@ enum {
     KV_COMPLETION_LENGTH = 2, /* completion not 16 bytes */
     KV_FORMAT_INDEX = 3,      /* format index above 15 */
     KV_NAMESPACE_ID = 4,      /* namespace id 0 or FFFFFFFFh */
-    KV_SIZE = 5,              /* size outside 1 to 65,536 */
-    KV_SLICE_LENGTH = 6,      /* directory or value slice shorter than the format and the size need */
-    KV_ILLEGAL = 18           /* store memory not legal */
+    KV_SIZE = 5,              /* size outside 1 to 65,536, or two that come to more */
+    KV_SLICE_LENGTH = 6,      /* directory or value slice shorter than formats and sizes need */
+    KV_ILLEGAL = 18,          /* store memory not legal */
+    KV_EQUAL_IDS = 19,        /* one id for both namespaces */
+    KV_NOT_HELD = 23          /* no namespace of the memory has this id */
 };
 
 /* Statuses, carried by the completion of a call that returned 0. All but KV_SUCCESS leave store and data buffer unchanged. */
@@ -38,7 +40,7 @@ enum {
     KV_INVALID_FIELD = 0x02,  /* fused bits, key length above 16, a byte behind the key, List into fewer than 4 bytes */
     KV_DATA_TRANSFER = 0x04,  /* data buffer shorter than Dword 10 */
     KV_INTERNAL = 0x06,       /* store memory not legal */
-    KV_INVALID_NAMESPACE = 0x0b,
+    KV_INVALID_NAMESPACE = 0x0b, /* no namespace of the memory has the entry's id */
     KV_CAPACITY = 0x81,       /* Store: the most keys held, or no room even with the key's old pair taken off */
     KV_VALUE_SIZE = 0x85,
     KV_KEY_SIZE = 0x86,
@@ -49,25 +51,32 @@ enum {
 /* Opcodes. */
 enum { KV_STORE = 0x01, KV_RETRIEVE = 0x02, KV_LIST = 0x06, KV_DELETE = 0x10, KV_EXIST = 0x14 };
 
-/* Formats the two slices: format `index` (0 to 15), namespace `id`, `size` bytes of room. Numbers 3, 4, 5, 6, tried in that order. */
+/* Formats the two slices for one namespace: format `index` (0 to 15), namespace `id`, `size` bytes of room. Numbers 3, 4, 5, 6, tried in
+ * that order. */
 uint32_t kv_format(uint32_t index, uint32_t id, uint64_t size, uint8_t *directory, size_t directory_len, uint8_t *values,
                    size_t values_len);
 
-/* One command: reads the 64-byte entry, acts on the store, writes the 16-byte completion. `data` is the command's data buffer:
- * Store reads its first bytes, Retrieve and List write them. In the entry the key bytes behind the key length must be zero. Numbers 1,
- * 2, tried in that order. Of `phase` the lowest bit counts. */
+/* Formats the two slices for two namespaces, each with its own id, format and room; together they may have 65,536 bytes of it. Neither
+ * sees or hinders the other. Numbers 3, 4, 5 of the first, 3, 4, 5 of the second, 19, 5 of the sum, 6, tried in that order. */
+uint32_t kv_format_two(uint32_t index1, uint32_t id1, uint64_t size1, uint32_t index2, uint32_t id2, uint64_t size2,
+                       uint8_t *directory, size_t directory_len, uint8_t *values, size_t values_len);
+
+/* One command: reads the 64-byte entry, acts on the namespace that it names, writes the 16-byte completion. `data` is the command's data
+ * buffer: Store reads its first bytes, Retrieve and List write them. In the entry the key bytes behind the key length must be zero.
+ * Numbers 1, 2, tried in that order. Of `phase` the lowest bit counts. */
 uint32_t kv_command(const uint8_t *entry, size_t entry_len, uint8_t *completion, size_t completion_len, uint8_t *data,
                     size_t data_len, uint8_t *directory, size_t directory_len, uint8_t *values, size_t values_len, uint16_t head,
                     uint16_t queue, uint16_t phase);
 
-/* How full the store is: `used` is the sum of the key lengths and value lengths of the pairs held, out of the size that was formatted,
+/* How full a namespace is: `used` is the sum of the key lengths and value lengths of the pairs held, out of the size that was formatted,
  * and `keys` their number. */
 struct kv_room {
     uint32_t number, used, keys;
 };
 
-/* Used room and the number of keys, for a host that draws a bar. Reads the store as a command does and writes nothing. Number 18. */
-struct kv_room kv_used(const uint8_t *directory, size_t directory_len, const uint8_t *values, size_t values_len);
+/* Used room and the number of keys of namespace `id`, for a host that draws a bar. Reads the store as a command does and writes nothing.
+ * Numbers 18, 23, tried in that order. */
+struct kv_room kv_used(uint32_t id, const uint8_t *directory, size_t directory_len, const uint8_t *values, size_t values_len);
 
 /* ---- The host's side, in libhost.a (`rt staticlib host`). It needs no store: an entry is built, a completion and a List page are
  * read. Each call gives a number as above. */

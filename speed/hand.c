@@ -1,76 +1,6 @@
 /* The yardstick: the module as a careful hand would write it in C, for the same header and the same memory. It is compared with the
  * proved module, never shipped. */
-#include "../include/kv.h"
-
-/* the compiler's own, so that a load of four bytes is one instruction */
-#define memcpy __builtin_memcpy
-#define memmove __builtin_memmove
-#define memset __builtin_memset
-
-struct head { uint32_t id, index, size, count, used; };
-struct store { struct head h; uint32_t keymax, valuemax, maxkeys, total; uint8_t *records, *values; };
-struct wide { uint64_t high, low; };
-
-static uint32_t load32(const uint8_t *p) { uint32_t x; memcpy(&x, p, 4); return x; }
-static uint64_t load64(const uint8_t *p) { uint64_t x; memcpy(&x, p, 8); return x; }
-static uint16_t load16(const uint8_t *p) { uint16_t x; memcpy(&x, p, 2); return x; }
-static void save32(uint8_t *p, uint32_t x) { memcpy(p, &x, 4); }
-static void save16(uint8_t *p, uint16_t x) { memcpy(p, &x, 2); }
-
-static struct wide wide_at(const uint8_t *p) {
-    struct wide w = { __builtin_bswap64(load64(p)), __builtin_bswap64(load64(p + 8)) };
-    return w;
-}
-
-/* byte by byte, then by length */
-static int below(struct wide a, uint32_t m, struct wide b, uint32_t n) {
-    if (a.high != b.high) return a.high < b.high;
-    if (a.low != b.low) return a.low < b.low;
-    return m < n;
-}
-
-static int padded(struct wide w, uint32_t n) {
-    if (n < 8) return w.low == 0 && (w.high << (8 * n)) == 0;
-    return n == 16 || (w.low << (8 * (n - 8))) == 0;
-}
-
-static int all_zero(const uint8_t *p, size_t n) {
-    uint8_t seen = 0; /* the compiler makes this loop wide */
-    for (size_t i = 0; i < n; i++) seen |= p[i];
-    return seen == 0;
-}
-
-static int permitted(uint32_t index, uint32_t id, uint64_t size) {
-    return index > 15 ? 3 : id == 0 || id == 0xffffffff ? 4 : size == 0 || size > 65536 ? 5 : 0;
-}
-
-static uint32_t max_keys(uint32_t index) { return 1024u >> (2 * (index / 4)); }
-
-/* step a, and the numbers that the other steps look at; a function of its own, so that its loop has the registers to itself */
-__attribute__((noinline)) static int check(struct store *s, const uint8_t *directory, size_t dlen, const uint8_t *values, size_t vlen) {
-    if (dlen < 64) return 0;
-    struct head h = { load32(directory), load32(directory + 4), load32(directory + 8), load32(directory + 12), load32(directory + 16) };
-    if (permitted(h.index, h.id, h.size)) return 0;
-    uint32_t maxkeys = max_keys(h.index), keymax = 4 * (h.index % 4 + 1), valuemax = 64u << (2 * (h.index / 4));
-    if (h.count > maxkeys || dlen < 64 + 32 * (size_t)maxkeys || vlen < h.size || !all_zero(directory + 20, 44)) return 0;
-    const uint8_t *r = directory + 64;
-    struct wide before = { 0, 0 };
-    uint32_t len = 0, total = 0, used = 0;
-    for (uint32_t j = 0; j < h.count; j++, r += 32) {
-        struct wide w = wide_at(r);
-        uint32_t k = load32(r + 16), v = load32(r + 24);
-        if (k - 1 >= keymax || v > valuemax || load32(r + 20) != total || load32(r + 28) != h.id || !padded(w, k)
-            || !below(before, len, w, k))
-            return 0;
-        before = w;
-        len = k;
-        total += v;
-        used += k + v;
-    }
-    if (used > h.size || used != h.used || !all_zero(r, 32 * (size_t)(maxkeys - h.count)) || !all_zero(values + total, h.size - total)) return 0;
-    *s = (struct store){ h, keymax, valuemax, maxkeys, total, (uint8_t *)directory + 64, (uint8_t *)values };
-    return 1;
-}
+#include "hand_check.h"
 
 /* the first slot whose key is not below the given one */
 static uint32_t find(const struct store *s, struct wide w, uint32_t len, int *held) {
@@ -125,9 +55,9 @@ static void insert(struct store *s, uint32_t slot, const uint8_t *e, uint32_t le
 }
 
 /* the numbers that a Store or Delete has changed */
-static void save_counts(const struct store *s, uint8_t *directory) {
-    save32(directory + 12, s->h.count);
-    save32(directory + 16, s->h.used);
+static void save_counts(const struct store *s) {
+    save32(s->half + 12, s->h.count);
+    save32(s->half + 16, s->h.used);
 }
 
 static void list(const struct store *s, uint32_t slot, uint8_t *data, uint32_t size) {
@@ -144,6 +74,12 @@ static void list(const struct store *s, uint32_t slot, uint8_t *data, uint32_t s
     save32(data, n);
 }
 
+static void save_head(uint8_t *half, uint32_t index, uint32_t id, uint32_t size) {
+    save32(half, id);
+    save32(half + 4, index);
+    save32(half + 8, size);
+}
+
 uint32_t kv_format(uint32_t index, uint32_t id, uint64_t size, uint8_t *directory, size_t dlen, uint8_t *values, size_t vlen) {
     int number = permitted(index, id, size);
     if (number) return number;
@@ -151,48 +87,62 @@ uint32_t kv_format(uint32_t index, uint32_t id, uint64_t size, uint8_t *director
     if (dlen < need || vlen < size) return 6;
     memset(directory, 0, need);
     memset(values, 0, size);
-    save32(directory, id);
-    save32(directory + 4, index);
-    save32(directory + 8, size);
+    save_head(directory, index, id, size);
+    return 0;
+}
+
+uint32_t kv_format_two(uint32_t index1, uint32_t id1, uint64_t size1, uint32_t index2, uint32_t id2, uint64_t size2, uint8_t *directory,
+                       size_t dlen, uint8_t *values, size_t vlen) {
+    int first = permitted(index1, id1, size1), second = first ? first : permitted(index2, id2, size2);
+    if (second) return second;
+    if (id1 == id2) return 19;
+    if (size1 + size2 > 65536) return 5;
+    size_t need = 64 + 32 * (size_t)(max_keys(index1) + max_keys(index2));
+    if (dlen < need || vlen < size1 + size2) return 6;
+    memset(directory, 0, need);
+    memset(values, 0, size1 + size2);
+    save_head(directory, index1, id1, size1);
+    save_head(directory + 32, index2, id2, size2);
     return 0;
 }
 
 static int step(const uint8_t *e, uint8_t *data, size_t data_len, uint8_t *directory, size_t dlen, uint8_t *values, size_t vlen,
                 uint32_t *dword0) {
-    struct store s;
-    if (!check(&s, directory, dlen, values, vlen)) return 0x06;
+    struct store both[2], *s;
+    int n = check(both, directory, dlen, values, vlen);
+    if (n == 0) return 0x06;
     uint8_t op = e[0], len = e[44], options = e[45];
     uint32_t amount = load32(e + 40);
     int store = op == 1, retrieve = op == 2, lists = op == 6, delete = op == 0x10, exist = op == 0x14;
     if (!(store | retrieve | lists | delete | exist)) return 0x01;
     if (e[1] & 3) return 0x02;
-    if (load32(e + 4) != s.h.id) return 0x0b;
+    if (!(s = named(both, n, load32(e + 4)))) return 0x0b;
     if (len > 16) return 0x02;
     struct wide key = { __builtin_bswap64(load64(e + 8)), __builtin_bswap64(load64(e + 56)) };
     if (!padded(key, len)) return 0x02;
-    if (len > s.keymax || (len == 0 && !lists)) return 0x86;
-    if (store && amount > s.valuemax) return 0x85;
+    if (len > s->keymax || (len == 0 && !lists)) return 0x86;
+    if (store && amount > s->valuemax) return 0x85;
     if (lists && amount < 4) return 0x02;
     if ((store | retrieve | lists) && data_len < amount) return 0x04;
     int held;
-    uint32_t slot = find(&s, key, len, &held);
+    uint32_t slot = find(s, key, len, &held);
     if (!held && (retrieve | delete | exist | (store && options & 1))) return 0x87;
     if (held && store && options & 2) return 0x89;
-    uint32_t old = held ? len + load32(s.records + 32 * slot + 24) : 0;
-    if (store && ((!held && s.h.count >= s.maxkeys) || (uint64_t)s.h.used - old + len + amount > s.h.size)) return 0x81;
+    uint32_t old = held ? len + load32(s->records + 32 * slot + 24) : 0;
+    if (store && ((!held && s->h.count >= s->maxkeys) || (uint64_t)s->h.used - old + len + amount > s->h.size)) return 0x81;
     if (store) {
-        if (held) erase(&s, slot);
-        insert(&s, slot, e, len, data, amount);
-        save_counts(&s, directory);
+        if (held) erase(s, slot);
+        insert(s, slot, e, len, data, amount);
+        save_counts(s);
     } else if (retrieve) {
-        uint32_t v = load32(s.records + 32 * slot + 24);
-        memcpy(data, s.values + load32(s.records + 32 * slot + 20), v < amount ? v : amount);
+        uint32_t v = load32(s->records + 32 * slot + 24);
+        memcpy(data, s->values + load32(s->records + 32 * slot + 20), v < amount ? v : amount);
         *dword0 = v;
     } else if (lists) {
-        list(&s, slot, data, amount);
+        list(s, slot, data, amount);
     } else if (delete) {
-        erase(&s, slot);
-        save_counts(&s, directory);
+        erase(s, slot);
+        save_counts(s);
     }
     return 0;
 }
@@ -213,8 +163,10 @@ uint32_t kv_command(const uint8_t *entry, size_t entry_len, uint8_t *completion,
     return 0;
 }
 
-struct kv_room kv_used(const uint8_t *directory, size_t directory_len, const uint8_t *values, size_t values_len) {
-    struct store s;
-    if (!check(&s, directory, directory_len, values, values_len)) return (struct kv_room){ 18, 0, 0 };
-    return (struct kv_room){ 0, s.h.used, s.h.count };
+struct kv_room kv_used(uint32_t id, const uint8_t *directory, size_t directory_len, const uint8_t *values, size_t values_len) {
+    struct store both[2], *s;
+    int n = check(both, directory, directory_len, values, values_len);
+    if (n == 0) return (struct kv_room){ 18, 0, 0 };
+    if (!(s = named(both, n, id))) return (struct kv_room){ 23, 0, 0 };
+    return (struct kv_room){ 0, s->h.used, s->h.count };
 }

@@ -1,95 +1,9 @@
 /* The module from C: the sample of document 01, its cases P1 to P12, bytes behind the key, the used room, a store filled to its last byte and
- * its last slot, and slices without a byte. After each call every byte past the needed part of both slices is compared. */
-#include "kv.h"
-
-int printf(const char *, ...);
-void *memcpy(void *, const void *, size_t);
-void *memset(void *, int, size_t);
-int memcmp(const void *, const void *, size_t);
+ * its last slot, two namespaces, and slices without a byte. After each call every byte past the needed part of both slices is compared. */
+#include "cases.h"
 
 _Static_assert(sizeof(struct kv_room) == 12 && _Alignof(struct kv_room) == 4, "kv_room");
 _Static_assert(offsetof(struct kv_room, number) == 0 && offsetof(struct kv_room, used) == 4 && offsetof(struct kv_room, keys) == 8, "kv_room");
-
-enum { SPARE = 8 };
-
-static uint8_t directory[64 + 32 * 1024 + SPARE], values[65536 + SPARE], data[4096], completion[16], entry[64];
-static uint8_t past[sizeof values]; /* what stands past the needed parts */
-static size_t needed_directory, needed_values;
-static int failed, passed;
-
-static void expect(const char *what, int ok) {
-    passed += ok;
-    failed += !ok;
-    if (!ok) printf("FAILED: %s\n", what);
-}
-
-static void untouched(void) {
-    size_t d = needed_directory, v = needed_values;
-    expect("past the directory's needed part", memcmp(directory + d, past, sizeof directory - d) == 0);
-    expect("past the values' needed part", memcmp(values + v, past, sizeof values - v) == 0);
-}
-
-static void format(uint32_t index, uint32_t size) {
-    memset(directory, 0x5a, sizeof directory);
-    memset(values, 0x5a, sizeof values);
-    memset(past, 0x5a, sizeof past);
-    needed_directory = 64 + 32 * (1024u >> index / 4 * 2);
-    needed_values = size;
-    expect("format", kv_format(index, 1, size, directory, sizeof directory, values, sizeof values) == 0);
-    untouched();
-}
-
-/* an entry with `len` key bytes and `amount` in Dword 10; what is not looked at is not zero */
-static void prepare(int opcode, int options, const void *key, int len, uint32_t amount) {
-    uint8_t k[16] = {0};
-    memcpy(k, key, len < 16 ? len : 16);
-    memset(entry, 0xee, sizeof entry);
-    entry[0] = opcode;
-    entry[1] = 0xfc;
-    entry[2] = 0x34;
-    entry[3] = 0x12;
-    entry[4] = 1;
-    entry[5] = entry[6] = entry[7] = 0;
-    memcpy(entry + 8, k, 8);
-    memcpy(entry + 40, &amount, 4);
-    entry[44] = len;
-    entry[45] = options;
-    memcpy(entry + 56, k + 8, 8);
-}
-
-/* that command with a data buffer of `room` bytes at `buffer`; its status */
-static int give(uint8_t *buffer, size_t room) {
-    uint32_t number = kv_command(entry, 64, completion, 16, buffer, room, directory, sizeof directory, values, sizeof values, 7, 1,
-                                 1);
-    expect("number", number == 0);
-    untouched();
-    int word = completion[14] | completion[15] << 8;
-    expect("phase and type", (word & 1) == 1 && word >> 9 == 0);
-    expect("fields", memcmp(completion + 4, "\0\0\0\0\7\0\1\0\x34\x12", 10) == 0);
-    return word >> 1 & 255;
-}
-
-static int command_on(uint8_t *buffer, int opcode, int options, const void *key, int len, uint32_t amount, size_t room) {
-    prepare(opcode, options, key, len, amount);
-    return give(buffer, room);
-}
-
-static int command(int opcode, int options, const void *key, int len, uint32_t amount, size_t room) {
-    return command_on(data, opcode, options, key, len, amount, room);
-}
-
-static uint32_t dword0(void) {
-    uint32_t n;
-    memcpy(&n, completion, 4);
-    return n;
-}
-
-static int store(int options, const char *key, int len, uint32_t amount) { return command(KV_STORE, options, key, len, amount, amount); }
-
-static int list(const char *key, int len, uint32_t size) {
-    memset(data, 0xff, sizeof data);
-    return command(KV_LIST, 0, key, len, size, size);
-}
 
 static void sample(void) {
     format(3, 4096);
@@ -140,12 +54,6 @@ static void strict(uint32_t index, const char *key, int len, const int want[5]) 
         expect("strict: the store as it was", memcmp(held, directory, sizeof held) == 0);
         expect("strict: zeros behind the key", command(opcodes[i], 0, key, len, 8, 8) == want[i]);
     }
-}
-
-static int room_is(uint32_t number, uint32_t used, uint32_t keys) {
-    struct kv_room r = kv_used(directory, sizeof directory, values, sizeof values);
-    untouched();
-    return r.number == number && r.used == used && r.keys == keys;
 }
 
 /* The used room after Stores, Stores in the place of others, Deletes and refusals. Then each bit of the head's number turned, alone: 18
@@ -236,9 +144,10 @@ static void empty(void) {
     expect("formatting nothing", kv_format(3, 1, 1, 0, 0, 0, 0) == 6 && kv_format(3, 1, 0, 0, 0, 0, 0) == 5);
     expect("formatting no directory", kv_format(3, 1, 1, 0, 0, values, sizeof values) == 6);
     expect("formatting no values", kv_format(3, 1, 1, directory, sizeof directory, 0, 0) == 6);
-    expect("polling nothing", kv_used(0, 0, 0, 0).number == KV_ILLEGAL);
-    expect("polling no directory", kv_used(0, 0, values, sizeof values).number == KV_ILLEGAL);
-    expect("polling no values", kv_used(directory, sizeof directory, 0, 0).number == KV_ILLEGAL);
+    expect("formatting nothing for two", kv_format_two(3, 1, 1, 3, 2, 1, 0, 0, 0, 0) == 6 && kv_format_two(3, 1, 0, 3, 2, 1, 0, 0, 0, 0) == 5);
+    expect("polling nothing", kv_used(1, 0, 0, 0, 0).number == KV_ILLEGAL);
+    expect("polling no directory", kv_used(1, 0, 0, values, sizeof values).number == KV_ILLEGAL);
+    expect("polling no values", kv_used(1, directory, sizeof directory, 0, 0).number == KV_ILLEGAL);
     untouched();
     expect("what was stored is held", command(KV_RETRIEVE, 0, "A", 1, 1, 1) == 0 && dword0() == 1);
 }
@@ -255,6 +164,7 @@ int main(void) {
     fill(3, 65536, 0, 1024);  /* the last slot */
     fill(15, 1608, 100, 15);  /* room for a sixteenth key, but not for its value */
     fill(15, 65536, 4092, 16);
+    two_farms();
     empty();
     printf("cases from C: %d passed, %d failed\n", passed, failed);
     return failed != 0;

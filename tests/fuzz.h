@@ -9,6 +9,20 @@ void *memcpy(void *, const void *, size_t);
 void *memset(void *, int, size_t);
 int memcmp(const void *, const void *, size_t);
 
+/* ---- fuzz_chance.c */
+
+extern uint64_t seed, state; /* where chance began and where it is */
+extern uint32_t turn;        /* which namespace a call is about */
+
+uint64_t next(void);
+uint32_t below(uint64_t n);
+int one_in(uint32_t n);
+void rubbish(uint8_t *a, uint8_t *b, size_t n); /* the same bytes for both */
+struct model_space *ours(void);                 /* the namespace whose turn it is */
+void take_turn(void);                           /* gives the turn to one that the history leaves */
+uint32_t stranger(void);                        /* an id that none of these has, every other time 0 or FFFFFFFFh */
+uint32_t written_id(void);                      /* what stands in one half of the head or the other */
+
 /* ---- fuzz_calls.c */
 
 enum { SPARE = 64, DATA = 24 * 1024 }; /* the longest page, 1024 keys of 16 bytes, has 20,484 bytes */
@@ -16,29 +30,29 @@ enum { SPARE = 64, DATA = 24 * 1024 }; /* the longest page, 1024 keys of 16 byte
 /* What the calls can write. Both sides are lent the same bytes; all of it is compared after each of the device's calls, and after
  * the host's what they were lent. */
 struct side {
-    uint8_t directory[64 + 32 * 1024 + SPARE], values[65536 + SPARE], data[DATA], completion[16 + SPARE], entry[64 + SPARE];
+    uint8_t directory[64 + 32 * 2048 + SPARE], values[65536 + SPARE], data[DATA], completion[16 + SPARE], entry[64 + SPARE];
 };
 
 extern struct side real, model;
-extern struct model_store *held, *seen; /* `held` is the map by the history, `seen` the one that the memory holds */
+extern struct model_store *held, *seen; /* `held` is what the history leaves, `seen` what the memory holds */
 extern int intact;                      /* the memory is the image of `held` */
 extern size_t directory_len, values_len;
-extern uint64_t seed, state, calls; /* where chance began and where it is, and the calls so far */
-
-uint64_t next(void);
-uint32_t below(uint64_t n);
-int one_in(uint32_t n);
-void rubbish(uint8_t *a, uint8_t *b, size_t n); /* the same bytes for both */
+extern uint64_t calls;                  /* so far */
 
 _Noreturn void differ(const char *what, uint64_t got, uint64_t expected);
 void number(const char *what, uint64_t got, uint64_t expected);
 uint32_t get16(const uint8_t *p);
 
 /* Each makes a call on both sides and ends the program where they differ. `command` returns the status, or 100h where a number was
- * given. `format` and `command` poll the used room now and then behind it. */
-uint32_t format(uint32_t index, uint32_t id, uint64_t size, size_t dlen, size_t vlen);
+ * given. The formattings and `command` poll the used room now and then behind it, of an id by chance. */
+struct asked {
+    uint32_t index, id;
+    uint64_t size;
+};
+uint32_t format(const struct asked *a, uint32_t n, size_t dlen, size_t vlen); /* one namespace or two */
 uint32_t command(size_t entry_len, size_t completion_len, size_t room, size_t dlen, size_t vlen);
-void poll(size_t dlen, size_t vlen);
+struct kv_room poll(uint32_t id, size_t dlen, size_t vlen);
+void any_poll(size_t dlen, size_t vlen);
 uint32_t build(size_t entry_len, uint8_t opcode, uint32_t nsid, const uint8_t *key, size_t key_len, uint32_t dword10,
                uint8_t options);
 struct kv_completion read_completion(const uint8_t *completion, size_t len);
@@ -50,22 +64,39 @@ int report_calls(void); /* prints the counters; returns how many of them say tha
 
 extern uint64_t salt;                 /* what a history's keys are drawn from */
 extern uint32_t pool, letters;        /* how many keys there are to draw, and of how many different bytes */
-extern uint32_t spite, storing, full; /* faults in 1000, Stores in 100, and whether to fill the store to its last slot */
-extern int walking, quiet;            /* within a walk the slices are lent whole; in a quiet one no call changes the store */
+extern uint32_t spite, storing, full; /* faults in 1000, Stores in 100, and whether to fill the namespaces to their last slot */
+extern int walking, quiet;            /* within a walk the slices are lent whole; in a quiet one no command changes its namespace */
 
-uint32_t any_command(void); /* returns what `command` does */
+uint32_t some_key(uint8_t key[16]);
+uint32_t some_amount(uint8_t opcode, uint32_t len);
+uint32_t any_command(void); /* to the namespace whose turn it is; returns what `command` does */
 int report_commands(void);  /* as `report_calls` */
-void bad_format(void);
+
+/* ---- fuzz_formats.c */
+
+void first_format(uint64_t ordinal); /* a history's: of each index in its turn, one namespace or two */
+void any_format(void);               /* over what the memory holds, into the same slices; refused where they are too short */
+void bad_format(void);               /* one that is refused */
+int report_formats(void);            /* as `report_calls` */
+
+/* ---- fuzz_pages.c */
+
+void pages(uint32_t amount); /* reads a List page as it came, then damaged in one way or several */
 
 /* ---- fuzz_damage.c */
 
-void pages(uint32_t amount); /* reads a List page as it came, then damaged in one way or several */
-void damaged(void);          /* damages the memory and gives commands on it */
+void damaged(void);      /* damages the memory and gives commands on it */
+int report_damage(void); /* as `report_calls` */
 
 /* ---- fuzz_again.c */
 
-void any_again(void);   /* fills the store to its last byte and stores held keys again */
+void any_again(void);   /* fills a namespace to its last byte and stores held keys again */
 int report_again(void); /* as `report_calls` */
+
+/* ---- fuzz_farms.c */
+
+void any_farms(void);   /* one namespace's commands twice, among others of the other; formats anew */
+int report_farms(void); /* as `report_calls` */
 
 /* ---- fuzz_walks.c */
 

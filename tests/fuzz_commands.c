@@ -1,4 +1,4 @@
-/* One command at random, or one formatting that is to be refused. */
+/* One command at random. */
 #include "fuzz.h"
 
 uint64_t salt;
@@ -11,7 +11,7 @@ static uint32_t key_of(uint32_t i, uint8_t key[16]) {
     static const uint8_t some[4] = {'A', 0x00, 0xff, 'B'};
     uint64_t kept = state;
     state = salt + i / 2 * 977;
-    uint32_t max = model_key_max(held->index), len = 1 + below(max);
+    uint32_t max = model_key_max(ours()->index), len = 1 + below(max);
     if (letters == 256 && len < 3) len = max; /* a full store needs that many keys */
     for (uint32_t j = 0; j < 16; j++) key[j] = letters == 256 ? below(256) : some[below(letters)];
     if (i % 2 == 1 && len < max && one_in(2)) key[len++] = 0;
@@ -20,10 +20,12 @@ static uint32_t key_of(uint32_t i, uint8_t key[16]) {
     return len;
 }
 
-static uint32_t some_key(uint8_t key[16]) {
+/* one that is held, now and then by the other namespace, or one of the pool, which both share */
+uint32_t some_key(uint8_t key[16]) {
+    const struct model_space *s = one_in(4) ? held->spaces + held->count - 1 - turn : ours();
     rubbish(key, key + 8, 8);
-    if (held->count > 0 && one_in(3)) {
-        const struct model_pair *p = held->pairs + below(held->count);
+    if (s->count > 0 && one_in(3)) {
+        const struct model_pair *p = s->pairs + below(s->count);
         memcpy(key, p->key, p->key_len);
         return p->key_len;
     }
@@ -37,8 +39,8 @@ static uint32_t some_key(uint8_t key[16]) {
 
 static int fault(void) { return below(1000) < spite; }
 
-static uint32_t some_amount(uint8_t opcode, uint32_t len) {
-    uint32_t value_max = model_value_max(held->index), left = held->size - model_used(held);
+uint32_t some_amount(uint8_t opcode, uint32_t len) {
+    uint32_t value_max = model_value_max(ours()->index), left = ours()->size - model_used(ours());
     if (fault()) return one_in(2) ? (uint32_t)next() : below(8);
     if (opcode == KV_LIST) return one_in(3) ? 4 + below(DATA - 3) : 4 + below(60);
     if (opcode == KV_RETRIEVE) return one_in(3) ? below(value_max + 2) : below(12);
@@ -93,8 +95,8 @@ int report_commands(void) {
 
 uint32_t any_command(void) {
     uint8_t key[300], opcode = below(100) < storing ? KV_STORE : opcodes[below(5)], options = next();
-    uint32_t len = some_key(key), nsid = held->id, lend_d = directory_len, lend_v = values_len;
-    uint32_t needed = 64 + 32 * model_max_keys(held->index), entry_len = 64, completion_len = 16;
+    uint32_t len = some_key(key), nsid = ours()->id, lend_d = directory_len, lend_v = values_len;
+    uint32_t needed_d = model_directory(held, held->count), needed_v = model_values(held, held->count), entry_len = 64, completion_len = 16;
     if (fault()) opcode = next();
     if (opcode == KV_STORE && !one_in(4)) options &= 0xfc;
     if (fault() || (opcode == KV_LIST && one_in(2))) len = one_in(4) ? 255 : below(21);
@@ -102,15 +104,16 @@ uint32_t any_command(void) {
     if (len < 16) memset(key + len, 0, 16 - len);
     int refused = quiet && (opcode == KV_STORE || opcode == KV_DELETE), fused = refused && one_in(2);
     if (refused && !fused && opcode == KV_STORE) options |= 3; /* both bits: refused whether the key is held or not */
-    if (refused && !fused && opcode == KV_DELETE) nsid ^= 1u << below(32);
-    if (fault()) nsid = one_in(2) ? nsid ^ 1u << below(32) : one_in(2) ? 0 : 0xffffffff;
+    if (refused && !fused && opcode == KV_DELETE) nsid = stranger();
+    if (fault()) nsid = stranger();
+    if (!intact && one_in(4)) nsid = written_id();
     uint32_t amount = some_amount(opcode, len), room = amount < DATA ? amount : DATA;
     if (fault() && room > 0) room = one_in(2) ? room - 1 : below(room);
     else if (one_in(3)) room += below(DATA - room + 1 < 64 ? DATA - room + 1 : 64);
     if (fault() && one_in(2)) entry_len = one_in(2) ? 63 + 2 * below(2) : below(64 + SPARE);
     if (fault() && one_in(2)) completion_len = one_in(2) ? 15 + 2 * below(2) : below(16 + SPARE);
-    if (!walking && fault() && one_in(2)) lend_d = one_in(3) ? needed - 1 : one_in(2) ? 62 + below(4) : below(directory_len + 1);
-    if (!walking && fault() && one_in(2)) lend_v = one_in(3) ? held->size - 1 : below(values_len + 1);
+    if (!walking && fault() && one_in(2)) lend_d = one_in(3) ? needed_d - 1 : one_in(2) ? 62 + below(4) : below(directory_len + 1);
+    if (!walking && fault() && one_in(2)) lend_v = one_in(3) ? needed_v - 1 : below(values_len + 1);
 
     rubbish(real.entry, model.entry, sizeof real.entry);
     if (one_in(8)) rubbish(real.completion, model.completion, sizeof real.completion);
@@ -136,20 +139,4 @@ uint32_t any_command(void) {
     if (status == 0 && opcode == KV_LIST && one_in(2)) pages(amount);
     if (refused && status == 0) differ("quiet: a change to be refused", status, 0x02);
     return status;
-}
-
-/* ---- formatting */
-
-void bad_format(void) {
-    uint32_t index = below(16), id = 1 + below(1000);
-    uint64_t size = 1 + below(65536);
-    size_t dlen = 64 + 32 * model_max_keys(index), vlen = size;
-    uint64_t sizes[6] = {0, 65537, 0x100000000, 0x100000001, next(), 0xffffffffffffffff};
-    uint32_t faults = 1 + below(31);
-    if (faults & 1) index = one_in(2) ? 16 + below(3) : (uint32_t)next() | 16;
-    if (faults & 2) id = one_in(2) ? 0 : 0xffffffff;
-    if (faults & 4) size = sizes[below(6)];
-    if (faults & 8) dlen = one_in(2) ? dlen - 1 : below(dlen);
-    if (faults & 16) vlen = one_in(2) ? vlen - 1 : below(vlen);
-    if (format(index, id, size, dlen, vlen) == 0) differ("formatting to refuse", 0, 1);
 }

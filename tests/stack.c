@@ -1,39 +1,11 @@
-/* The deepest stack of each exported call, arguments and return address with it. Two stores full to the last byte, one of the most keys and
- * one of the longest values: every command on them, carried out and refused by every step, and on damaged memory. It fails above what the
- * smallest board has, and where a List from the start leaves a key that it listed on the stack. */
-#include "kv.h"
-#include "paint.h"
+/* The deepest stack of each exported call, arguments and return address with it. Stores full to the last byte, of the most keys and of the
+ * longest values, with one namespace and with two: every command on them, carried out and refused by every step, and on damaged memory. It
+ * fails above what the smallest board has, and where a List from the start leaves a key that it listed on the stack. */
+#include "stack_stores.h"
 
 int printf(const char *, ...);
-void *memcpy(void *, const void *, size_t);
 
-enum { BOARD = 2048, SIZE = 65536, DIRECTORY = 64 + 32 * 1024, PAGE = 4096, KEY = 16, TAIL = 12 };
-
-static const char tail[TAIL + 1] = "EARTAG-CODES"; /* every key ends in it; nothing else has these bytes */
-
-static const struct store {
-    uint32_t index, keys, value;
-} stores[2] = {{3, 1024, 64 - KEY}, {15, 16, 4096 - KEY}};
-
-/* what is lent to a call, and what it takes and gives beside that */
-static uint8_t directory[DIRECTORY], values[SIZE], data[PAGE], entry[64], completion[16], page[PAGE];
-static struct lengths {
-    size_t entry, completion, data, directory, values, page, key;
-} lent;
-static const struct lengths whole = {64, 16, PAGE, DIRECTORY, SIZE, PAGE, KEY};
-static uint32_t format_index, id, ordinal, number;
-static uint64_t size;
-static uint8_t opcode;
-
-static void format(void) { number = kv_format(format_index, id, size, directory, lent.directory, values, lent.values); }
-static void command(void) {
-    number = kv_command(entry, lent.entry, completion, lent.completion, data, lent.data, directory, lent.directory, values,
-                        lent.values, 1, 1, 1);
-}
-static void used(void) { number = kv_used(directory, lent.directory, values, lent.values).number; }
-static void build(void) { number = kv_build(entry, lent.entry, opcode, 1, 1, (const uint8_t *)"0123456789abcdefg", lent.key, 4, 0); }
-static void read_completion(void) { number = kv_read_completion(completion, lent.completion).number; }
-static void read_page(void) { number = kv_read_page(page, lent.page, ordinal).number; }
+enum { BOARD = 2048 };
 
 static size_t deepest;          /* of the calls since the last row */
 static uint32_t numbers, lists; /* numbers that occurred, a bit each; Lists whose stack was searched */
@@ -66,20 +38,6 @@ static void notice(void) {
     deepest = 0;
 }
 
-/* a command on key i of a store, and a data buffer for it */
-static void prepare(int code, const struct store *s, uint32_t i) {
-    uint32_t high = __builtin_bswap32(i * 4194301u), amount = code == KV_LIST ? PAGE : s->value;
-    memset(data, i, PAGE);
-    memset(entry, 0, sizeof entry);
-    entry[0] = code;
-    entry[4] = 1;
-    memcpy(entry + 8, &high, 4);
-    memcpy(entry + 12, tail, 4);
-    memcpy(entry + 56, tail + 4, 8);
-    memcpy(entry + 40, &amount, 4);
-    entry[44] = KEY;
-}
-
 enum { AS_IT_IS, NO_KEY, ABSENT_KEY, IF_PRESENT, IF_ABSENT, SMALL_AMOUNT, NO_AMOUNT, LARGE_AMOUNT, NO_DATA, UNKNOWN_OPCODE, FUSED, OTHER_ID,
        KEY_OF_17, BYTE_BEHIND, SHORT_ENTRY, SHORT_COMPLETION, SHORT_DIRECTORY, SHORT_VALUES, TRIES };
 
@@ -105,33 +63,6 @@ static void vary(int try) {
     }
 }
 
-static uint8_t kept_directory[DIRECTORY], kept_values[SIZE];
-
-static void put_back(void) {
-    memcpy(directory, kept_directory, DIRECTORY);
-    memcpy(values, kept_values, SIZE);
-}
-
-/* all keys of a store, or all but the last so that a new one finds room */
-static void fill(const struct store *s, uint32_t missing) {
-    format_index = s->index, id = 1, size = SIZE;
-    format();
-    for (uint32_t i = 0; i + missing < s->keys; i++) {
-        prepare(KV_STORE, s, i);
-        command();
-    }
-    memcpy(kept_directory, directory, DIRECTORY);
-    memcpy(kept_values, values, SIZE);
-}
-
-/* a bit of each byte of the head and of the first, middle and last record, one after another; past these none */
-static int damage(const struct store *s, uint32_t i) {
-    uint32_t at = i < 64 ? i : 64 + 32 * ((i - 64) / 32 * (s->keys - 1) / 2) + i % 32;
-    put_back();
-    directory[at % DIRECTORY] ^= 1 << i % 8;
-    return i < 64 + 3 * 32;
-}
-
 /* one command on memory as it is; after a List without a key of its own no key may stand on the stack */
 static void give(int code, const struct store *s, int try) {
     prepare(code, s, s->keys / 2);
@@ -144,38 +75,80 @@ static void give(int code, const struct store *s, int try) {
     if (on_stack(tail, TAIL)) failed = printf("FAILED: a key that a List copied stands on the stack\n");
 }
 
-static void commands(int code, const char *what) {
-    for (int k = 0; k < 4; k++) {
-        const struct store *s = stores + k / 2;
-        fill(s, k % 2);
+/* to each namespace of a store, with room for a key and full, and full and damaged */
+static void commands_to(const struct store *s, int code, int is_full) {
+    for (farm = 1; farm <= s->namespaces; farm++) {
         for (int try = 0; try < TRIES; try++) {
             put_back();
             give(code, s, try);
         }
-        for (uint32_t i = 0; damage(s, i); i++) give(code, s, AS_IT_IS);
     }
-    row("kv_command", what);
+    farm = 1;
+    for (uint32_t i = 0; is_full && damage(s, i); i++) give(code, s, AS_IT_IS);
+}
+
+static void commands(void) {
+    static const struct { int code; const char *what; } all[5]
+        = {{KV_STORE, ", Store"}, {KV_RETRIEVE, ", Retrieve"}, {KV_DELETE, ", Delete"}, {KV_EXIST, ", Exist"}, {KV_LIST, ", List"}};
+    size_t deep[5] = {0};
+    for (int k = 0; k < 2 * STORES; k++) {
+        fill(stores + k / 2, 1 - k % 2);
+        for (int i = 0; i < 5; i++) {
+            deepest = deep[i];
+            commands_to(stores + k / 2, all[i].code, k % 2);
+            deep[i] = deepest;
+        }
+    }
+    for (int i = 0; i < 5; i++) {
+        deepest = deep[i];
+        row("kv_command", all[i].what);
+    }
 }
 
 static void formats(void) {
-    id = 1, size = SIZE;
-    for (format_index = 0; format_index <= 16; format_index++) measure(format);
-    format_index = 0;
+    first = (struct asked){0, 1, SIZE};
+    for (; first.index <= 16; first.index++) measure(format);
+    first.index = 0;
     lent.values = SIZE - 1;
     measure(format);
-    id = 0;
+    first.id = 0;
     measure(format);
-    id = 1, size = 0;
+    first = (struct asked){0, 1, 0};
     measure(format);
     row("kv_format", "");
 }
 
-static void polls(void) {
-    for (int k = 0; k < 2; k++) {
-        fill(stores + k, 0);
-        measure(used);
-        for (uint32_t i = 0; damage(stores + k, i); i++) measure(used);
+/* each fault of either namespace alone, then what only both can have: equal ids, sizes that are too large together, too short a slice */
+static void formats_two(void) {
+    static const struct asked good = {0, 1, SIZE / 2}, other = {3, 2, SIZE / 2}, faults[] = {{16, 1, 1}, {0, 0, 1}, {0, 1, 0}, {3, 2, SIZE}};
+    for (uint32_t i = 0; i < 256; i++) {
+        first = (struct asked){i / 16, 1, SIZE / 2};
+        second = (struct asked){i % 16, 2, SIZE / 2};
+        measure(format_two);
     }
+    for (size_t i = 0; i < sizeof faults / sizeof *faults; i++) {
+        first = faults[i], second = other;
+        measure(format_two);
+        first = good, second = faults[i];
+        measure(format_two);
+    }
+    lent.values = SIZE - 1;
+    first = good, second = other;
+    measure(format_two);
+    row("kv_format_two", "");
+}
+
+/* of each namespace, and of one that there is not */
+static void polls(void) {
+    for (int k = 0; k < STORES; k++) {
+        fill(stores + k, 0);
+        for (farm = 1; farm <= stores[k].namespaces + 1; farm++) {
+            put_back();
+            measure(used);
+            for (uint32_t i = 0; damage(stores + k, i); i++) measure(used);
+        }
+    }
+    farm = 1;
     row("kv_used", "");
 }
 
@@ -228,18 +201,16 @@ int main(void) {
     notice();
     printf("| Call | Deepest stack, bytes |\n|---|---|\n");
     formats();
-    commands(KV_STORE, ", Store");
-    commands(KV_RETRIEVE, ", Retrieve");
-    commands(KV_DELETE, ", Delete");
-    commands(KV_EXIST, ", Exist");
-    commands(KV_LIST, ", List");
+    formats_two();
+    commands();
     polls();
     builds();
     completions();
     pages();
     for (size_t i = 0; i < sizeof expected; i++)
         if (!statuses[expected[i]]) failed = printf("FAILED: status %02x did not occur\n", expected[i]);
-    if (numbers != (0x3fffu | 1u << KV_ILLEGAL)) failed = printf("FAILED: of the numbers these occurred: %x\n", numbers);
+    if (numbers != (0x3fffu | 1u << KV_ILLEGAL | 1u << KV_EQUAL_IDS | 1u << KV_NOT_HELD))
+        failed = printf("FAILED: of the numbers these occurred: %x\n", numbers);
     if (lists == 0) failed = printf("FAILED: no List had its stack searched\n");
     return failed != 0;
 }

@@ -1,7 +1,7 @@
--- One command on memory that is the image of a namespace leaves the image of what the command makes of it; formatting leaves the image of
--- the empty map; what lies past the needed part is not written. Assumes nothing.
-use mathlib.Core.Path.{_≡_, refl, ap}
-use mathlib.Core.Bool.{Bool, true, false, cond}
+-- One command on memory that is the image of namespaces leaves the image of what the command makes of the one that it names; what lies past the
+-- needed part is not written. Assumes nothing.
+use mathlib.Core.Path.{_≡_, refl, sym, ap, _∙_}
+use mathlib.Core.Bool.{true, false, cond}
 use mathlib.Core.List.{List}
 use Prim.Native.Nat.{ℕ}
 use native.Mathlib.Nat.{zero-add}
@@ -9,22 +9,22 @@ use native.Mathlib.Omega.{arith}
 use lib.ListN.{length, drop, length-append, length-take, length-drop}
 use lib.Seq.{drop-at}
 use lib.Dec.{eqb}
-use borrow.Author.Tests.{eqb-true}
+use borrow.Author.Tests.{eqb-true, eq-eqb}
 use Rattle.octets.specs.Octets.{part, put}
-use Rattle.octets.specs.Tests.{firstOf}
 use Rattle.octets.proofs.TestLaws.{known, holds, fails}
 use Rattle.wire.specs.declared.entries.Command.{Command}
 use Rattle.wire.specs.Entry.{readCommand}
-use Rattle.store.specs.Namespace.{Namespace, withPairs, fresh}
-use Rattle.store.proofs.NamespaceLaws.{Within, fresh-within}
-use Rattle.memory.specs.Memory.{Memory, needed, formatSteps, directoryOf, valuesOf, imageOver, namespaceOf, legal}
-use Rattle.memory.proofs.FormatLaws.{formattable}
+use Rattle.store.specs.Maps.{Pair}
+use Rattle.store.specs.Namespace.{Namespace}
+use Rattle.memory.specs.Namespaces.{slotsOf, sizeOf, held, at, with}
+use Rattle.memory.specs.Memory.{Memory, needed, neededValues, directoryOf, valuesOf, imageOver, namespacesOf, legal}
+use Rattle.memory.proofs.LimitLaws.{Within}
+use Rattle.memory.proofs.NameLaws.{at-id, at-within, with-same, with-within, with-total}
 use Rattle.memory.proofs.ImageLaws.{length-directory, length-values, Holds, holds-back, holds-legal, legal-holds, over-holds}
-use Rattle.commands.specs.Steps.{statusOf}
+use Rattle.rules.specs.Steps.{statusOf}
 use Rattle.commands.specs.Answer.{Answer, answer}
-use Rattle.commands.specs.Formatting.{format}
 use Rattle.commands.specs.Command.{Post, completionOf, Lent, respond, serve, command}
-use Rattle.commands.proofs.AnswerLaws.{answer-status, answer-within, refused}
+use Rattle.commands.proofs.AnswerLaws.{answer-status, answer-within, refused, unrefused}
 
 -- ---- a read command
 
@@ -32,39 +32,54 @@ pub entry-key : (e : List ℕ) → length e ≡ 64 → length (readCommand e .ke
 unfolding readCommand part
 entry-key e h = simp (length-append, length-take, length-drop) (omega arith)
 
-module _ (p : Post) (c : Command) (l : Lent) (s : Namespace) (h : Holds s (l .memory)) where
+module _ (p : Post) (c : Command) (l : Lent) (ss : List Namespace) (h : Holds ss (l .memory)) where
+  abbrev named : Namespace
+  named = at (c .nsid) ss
+
   abbrev given : Answer
-  given = answer true s c (l .buffer)
+  given = answer true named c (l .buffer)
 
   -- the answer on the map is what is seen of it
   pub serve-is : serve p c l ≡ record {
     completion = completionOf p c (given .status) (given .dword0);
     buffer = given .buffer;
-    memory = cond (eqb (given .status) 0) (imageOver (withPairs s (given .pairs)) (l .memory)) (l .memory);
+    memory = cond (eqb (given .status) 0) (imageOver (with (c .nsid) (given .pairs) ss) (l .memory)) (l .memory);
   }
   unfolding serve respond
   serve-is =
       rw (holds-legal h, holds-back h)
 
-  -- and the memory afterwards is the image of what it makes of the map
-  pub serve-holds : length (c .key) ≡ 16 → Holds (withPairs s (given .pairs)) (serve p c l .memory)
+  -- a command that succeeds has named one of them
+  done-within : length (c .key) ≡ 16 → eqb (given .status) 0 ≡ true → Within (with (c .nsid) (given .pairs) ss)
+  done-within sixteen e =
+      let z = sym (answer-status true named c (l .buffer)) ∙ eqb-true _ _ e in
+      let same = unrefused true named c (length (l .buffer)) z .early .same in
+      let q : held (c .nsid) ss ≡ true = sym (at-id (c .nsid) ss) ∙ eq-eqb (c .nsid) (named .id) same in
+      with-within (c .nsid) (given .pairs) ss (h .within) q
+      (answer-within named c (l .buffer) (at-within (c .nsid) ss (h .within .each) q) sixteen)
+
+  -- and one that is refused keeps all
+  refused-same : eqb (given .status) 0 ≡ false → with (c .nsid) (given .pairs) ss ≡ ss
+  refused-same e =
+      let same = ap (λ a. a .pairs) (refused true named c (l .buffer) (rw (answer-status true named c (l .buffer)) at e)) in
+      rw same (with-same (c .nsid) ss)
+
+  -- the memory afterwards is the image of what it makes of the map
+  pub serve-holds : length (c .key) ≡ 16 → Holds (with (c .nsid) (given .pairs) ss) (serve p c l .memory)
   serve-holds sixteen =
-      let next = withPairs s (given .pairs) in
       elim (known (eqb (given .status) 0)) [
-        | holds e ↦ rw (serve-is, e) (over-holds next (l .memory) (answer-within s c (l .buffer) (h .within) sixteen))
-        | fails e ↦
-            let same : given .pairs ≡ s .pairs = ap (λ a. a .pairs) (refused true s c (l .buffer) (rw (answer-status true s c (l .buffer)) at e)) in
-            rw (serve-is, e) (rw same h)
+        | holds e ↦ rw (serve-is, e) (over-holds (with (c .nsid) (given .pairs) ss) (l .memory) (done-within sixteen e))
+        | fails e ↦ rw (serve-is, e) (rw (refused-same e) h)
       ]
 
 -- a refusal leaves store and data buffer as they were, whatever the memory
 pub serve-refused : (p : Post) (c : Command) (l : Lent)
-    → eqb (statusOf (legal (l .memory)) (namespaceOf (l .memory)) c (length (l .buffer))) 0 ≡ false
+    → eqb (statusOf (legal (l .memory)) (at (c .nsid) (namespacesOf (l .memory))) c (length (l .buffer))) 0 ≡ false
     → (serve p c l .buffer ≡ l .buffer) × (serve p c l .memory ≡ l .memory)
 unfolding serve respond
 serve-refused p c l e =
     let ok = legal (l .memory) in
-    let s = namespaceOf (l .memory) in
+    let s = at (c .nsid) (namespacesOf (l .memory)) in
     let r = refused ok s c (l .buffer) e in
     (ap (λ a. a .buffer) r, rw (answer-status ok s c (l .buffer), e))
 
@@ -94,24 +109,9 @@ command-legal p e l ok =
             | fails g ↦ rw (command-2 p e l f g) ok
             | holds g ↦
                 let k = entry-key e (eqb-true (length e) 64 f) in
-                rw (command-0 p e l f g) (holds-legal (serve-holds p (readCommand e) l (namespaceOf (l .memory)) (legal-holds (l .memory) ok) k))
+                rw (command-0 p e l f g) (holds-legal (serve-holds p (readCommand e) l (namespacesOf (l .memory)) (legal-holds (l .memory) ok) k))
           ]
     ]
-
--- ---- formatting
-
-module _ (i id n : ℕ) (m : Memory) where
-  pub format-refused : eqb (firstOf (formatSteps i id n (length (m .directory)) (length (m .values)))) 0 ≡ false → format i id n m .after ≡ m
-  unfolding format
-  format-refused e = rw e
-
-  -- what formatting leaves is the empty map
-  pub format-holds : format i id n m .number ≡ 0 → Holds (fresh i id n) (format i id n m .after)
-  unfolding format
-  format-holds e =
-      rw e
-      (over-holds (fresh i id n) m
-      (fresh-within i id n (formattable i id n (length (m .directory)) (length (m .values)) e .permits)))
 
 -- ---- bytes past the needed part are not written
 
@@ -119,24 +119,32 @@ pub past-put : (n : ℕ) (xs old : List ℕ) → length xs ≡ n → drop n (put
 unfolding put
 past-put n xs old e = rw (zero-add, e) (drop-at xs (drop n old) n e)
 
-pub record Kept (index size : ℕ) (m n : Memory) : Type 0 where
-  pub directory : drop (needed index) (n .directory) ≡ drop (needed index) (m .directory)
-  pub values : drop size (n .values) ≡ drop size (m .values)
+-- n is as m past the needed part of ss
+pub record Kept (ss : List Namespace) (m n : Memory) : Type 0 where
+  pub directory : drop (needed ss) (n .directory) ≡ drop (needed ss) (m .directory)
+  pub values : drop (neededValues ss) (n .values) ≡ drop (neededValues ss) (m .values)
 
-over-kept : (s : Namespace) (m : Memory) → Within s → Kept (s .index) (s .size) m (imageOver s m)
-over-kept s m w =
+pub over-kept : (ss : List Namespace) (m : Memory) → Within ss → Kept ss m (imageOver ss m)
+over-kept ss m w =
     record {
-      directory = past-put (needed (s .index)) (directoryOf s) (m .directory) (length-directory s w);
-      values = past-put (s .size) (valuesOf s) (m .values) (length-values s w);
+      directory = past-put (needed ss) (directoryOf ss) (m .directory) (length-directory ss w);
+      values = past-put (neededValues ss) (valuesOf ss) (m .values) (length-values ss (w .each));
     }
 
-pub serve-kept : (p : Post) (c : Command) (l : Lent) (s : Namespace) → Holds s (l .memory) → length (c .key) ≡ 16
-    → Kept (s .index) (s .size) (l .memory) (serve p c l .memory)
-serve-kept p c l s h sixteen = rw (serve-is p c l s h) (go (eqb (given p c l s h .status) 0))
-  where
-    next : Namespace
-    next = withPairs s (given p c l s h .pairs)
+-- other pairs need the same bytes
+pub kept-same : (n : ℕ) (ps : List Pair) (ss : List Namespace) (x y : Memory) → Kept (with n ps ss) x y → Kept ss x y
+kept-same n ps ss x y k =
+    let d = with-total slotsOf n ps (λ s. refl) ss in
+    let v = with-total sizeOf n ps (λ s. refl) ss in
+    record { directory = rw d at (k .directory); values = rw v at (k .values) }
 
-    go : (z : Bool) → Kept (s .index) (s .size) (l .memory) (cond z (imageOver next (l .memory)) (l .memory))
-    go true = over-kept next (l .memory) (answer-within s c (l .buffer) (h .within) sixteen)
-    go false = record { directory = refl; values = refl }
+pub serve-kept : (p : Post) (c : Command) (l : Lent) (ss : List Namespace) → Holds ss (l .memory) → length (c .key) ≡ 16
+    → Kept ss (l .memory) (serve p c l .memory)
+serve-kept p c l ss h sixteen =
+    let next = with (c .nsid) (given p c l ss h .pairs) ss in
+    elim (known (eqb (given p c l ss h .status) 0)) [
+      | holds e ↦
+          rw (serve-is p c l ss h, e)
+          (kept-same (c .nsid) (given p c l ss h .pairs) ss _ _ (over-kept next (l .memory) (done-within p c l ss h sixteen e)))
+      | fails e ↦ rw (serve-is p c l ss h, e) (record { directory = refl; values = refl })
+    ]

@@ -1,4 +1,3 @@
 -- The laws of `specs/`, for the proofs of this crate and of those above it.
-pub mod StepLaws
 pub mod AnswerLaws
 pub mod CommandLaws

@@ -10,7 +10,7 @@ use Rattle.wire.specs.Entry.{keyOf, isStore, isRetrieve, isList, isDelete}
 use Rattle.wire.specs.Page.{page, shown}
 use Rattle.store.specs.Maps.{Pair, keys, valueOf, insert, erase}
 use Rattle.store.specs.Namespace.{Namespace}
-use Rattle.commands.specs.Steps.{statusOf}
+use Rattle.rules.specs.Steps.{statusOf}
 
 pub record Answer : Type 0 where
   pub status : ℕ

@@ -7,8 +7,8 @@ use Rattle.octets.specs.Tests.{firstOf}
 use Rattle.wire.specs.declared.entries.Command.{Command}
 use Rattle.wire.specs.Entry.{readCommand, notEntry}
 use Rattle.wire.specs.Completion.{writeCompletion, notCompletion}
-use Rattle.store.specs.Namespace.{withPairs}
-use Rattle.memory.specs.Memory.{Memory, memory, imageOver, namespaceOf, legal}
+use Rattle.memory.specs.Namespaces.{at, with}
+use Rattle.memory.specs.Memory.{Memory, memory, imageOver, namespacesOf, legal}
 use Rattle.commands.specs.Answer.{answer}
 
 -- what the caller gives for the completion; of phase only the lowest bit counts
@@ -43,16 +43,16 @@ pub record Response : Type 0 where
 abbrev pub response : ℕ → ℕ → List ℕ → List ℕ → List ℕ → Response
 response st n b d v = record { status = st; dword0 = n; buffer = b; memory = memory d v }
 
--- the store's memory is written only where the status is 00h
+-- on the namespace that the command names; the store's memory is written only where the status is 00h
 unfoldable pub respond : Command → List ℕ → Memory → Response
 respond c b m =
-    let s = namespaceOf m in
-    let a = answer (legal m) s c b in
+    let ss = namespacesOf m in
+    let a = answer (legal m) (at (c .nsid) ss) c b in
     record {
       status = a .status;
       dword0 = a .dword0;
       buffer = a .buffer;
-      memory = cond (eqb (a .status) 0) (imageOver (withPairs s (a .pairs)) m) m;
+      memory = cond (eqb (a .status) 0) (imageOver (with (c .nsid) (a .pairs) ss) m) m;
     }
 
 unfoldable pub serve : Post → Command → Lent → Lent

@@ -1,13 +1,13 @@
 // One command, from its entry to its completion.
 use crate::effects::perform;
-use crate::steps::Stock;
-use crate::steps::View;
-use crate::steps::decide_early;
-use crate::steps::decide_late;
+use maps::looks::held_room;
+use maps::looks::look_up;
 use memory::checks::Checked;
 use memory::checks::check;
-use memory::looks::held_room;
-use memory::looks::look_up;
+use rules::steps::Stock;
+use rules::steps::View;
+use rules::steps::decide_early;
+use rules::steps::decide_late;
 use wire::completions::Completion;
 use wire::completions::write_completion;
 use wire::entries::Command;
@@ -65,7 +65,7 @@ fn respond(c: Command, buffer: &mut [u8], directory: &mut [u8], values: &mut [u8
         ⌜ response (r .status) (r .dword0) (now (buffer .exit)) (now (directory .exit)) (now (values .exit))
         ≡ respond c (now (buffer .entry)) (memory (now (directory .entry)) (now (values .entry))) ⌝ }
 {
-    let k = check(directory, values);
+    let k = check(directory, values, c.nsid);
     let format = k.format;
     let v = View {
         legal: k.ok,

@@ -1,9 +1,9 @@
 // What a command does that no step refuses.
-use memory::changes::erase;
-use memory::changes::put;
+use changes::pairs::erase;
+use changes::pairs::put;
+use maps::looks::hand_over;
+use maps::looks::list_keys;
 use memory::checks::Checked;
-use memory::looks::hand_over;
-use memory::looks::list_keys;
 use store::finds::Found;
 use wire::entries::Command;
 use wire::entries::DELETE;

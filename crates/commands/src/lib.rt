@@ -1,5 +1,3 @@
-// The commands: steps a to j, what a command does to the map, one command from its entry to its completion, formatting.
+// The commands: what a command does to the map, and one command from its entry to its completion.
 pub mod commands;
 mod effects;
-pub mod formatting;
-mod steps;

@@ -1,5 +1,6 @@
 -- The laws of `specs/`, for the proofs of this crate and of those above it.
-pub mod FormatLaws
+pub mod JoinLaws
+pub mod LimitLaws
+pub mod NameLaws
 pub mod ImageLaws
-pub mod LegalLaws
-pub mod RoomLaws
+pub mod PlaceLaws

@@ -1,2 +1,3 @@
--- What `check` answers, one law for each way out.
-mod Answers
+-- What the check answers: of one half, and of both.
+mod Halves
+mod Both

@@ -1,6 +1,6 @@
--- A call on memory that is the image of a namespace leaves the image of what its answer tells, and nothing past the needed part changes
+-- A call on memory that is the image of namespaces leaves the image of what its answer tells, and nothing past the needed part changes
 -- unless it formats; so do any calls. Assumes nothing.
-use mathlib.Core.Path.{_≡_, refl, ap}
+use mathlib.Core.Path.{_≡_, refl, sym, ap}
 use mathlib.Core.Bool.{Bool, true, false, cond}
 use mathlib.Core.List.{List, [], _∷_}
 use Prim.Native.Nat.{ℕ, _^_, _<_}
@@ -14,20 +14,20 @@ use Rattle.octets.proofs.NumberLaws.{number-bytes}
 use Rattle.wire.specs.declared.entries.Command.{Command}
 use Rattle.wire.specs.Entry.{readCommand}
 use Rattle.wire.specs.Completion.{readCompletion, writeCompletion}
-use Rattle.store.specs.Namespace.{Namespace, fresh, withPairs}
-use Rattle.store.proofs.NamespaceLaws.{fresh-within}
-use Rattle.memory.specs.Memory.{Memory, needed, directoryOf, valuesOf}
-use Rattle.memory.proofs.FormatLaws.{formattable}
-use Rattle.memory.proofs.ImageLaws.{length-directory, length-values, Holds}
-use Rattle.commands.specs.Steps.{statusOf}
+use Rattle.store.specs.Namespace.{Namespace}
+use Rattle.memory.specs.Namespaces.{at, with}
+use Rattle.memory.specs.Memory.{Memory}
+use Rattle.memory.proofs.NameLaws.{with-same}
+use Rattle.memory.proofs.ImageLaws.{Holds}
+use Rattle.rules.specs.Steps.{statusOf}
+use Rattle.rules.proofs.StepLaws.{status-byte}
+use Rattle.formatting.specs.Formatting.{blanks, format}
+use Rattle.formatting.proofs.FormatLaws.{Few, blanks-within, format-holds, format-refused}
 use Rattle.commands.specs.Answer.{Answer, answer, pairsAfter}
-use Rattle.commands.specs.Formatting.{format}
 use Rattle.commands.specs.Command.{Post, Outcome, completionOf, serve}
-use Rattle.module.specs.History.{Call, formatting, commanding, polling, lend, run, leaves, told, stored}
-use Rattle.commands.proofs.StepLaws.{status-byte}
 use Rattle.commands.proofs.AnswerLaws.{answer-status}
-use Rattle.commands.proofs.CommandLaws.{past-put, entry-key, serve-is, serve-holds, command-0, command-1, command-2}
-use Rattle.commands.proofs.CommandLaws.{format-holds, format-refused, Kept, serve-kept}
+use Rattle.commands.proofs.CommandLaws.{entry-key, serve-is, serve-holds, command-0, command-1, command-2, Kept, over-kept, serve-kept}
+use Rattle.module.specs.History.{Layout, one, two, halves, Call, formatting, commanding, polling, lend, run, leaves, told, stored}
 
 -- ---- a command that numbers 1 and 2 let pass
 
@@ -44,7 +44,11 @@ answer-pairs : (s : Namespace) (c : Command) (b : List ℕ)
 unfolding answer
 answer-pairs s c b = elim (known (eqb (statusOf true s c (length b)) 0)) [ holds e ↦ rw e | fails e ↦ rw e ]
 
-module _ (s : Namespace) (m : Memory) (p : Post) (e c b : List ℕ) (h : Holds s m) (e64 : length e ≡ 64) (c16 : length c ≡ 16) where
+module _ (ss : List Namespace) (m : Memory) (p : Post) (e c b : List ℕ) (h : Holds ss m) (e64 : length e ≡ 64) (c16 : length c ≡ 16) where
+  -- the namespace that the command names
+  abbrev s : Namespace
+  s = at (readCommand e .nsid) ss
+
   abbrev given : Answer
   given = answer true s (readCommand e) b
 
@@ -57,54 +61,58 @@ module _ (s : Namespace) (m : Memory) (p : Post) (e c b : List ℕ) (h : Holds s
 
   pub call-status : readCompletion (run m (commanding p e c b) .after .completion) .status ≡ statusOf true s (readCommand e) (length b)
   call-status =
-      rw (served, serve-is p (readCommand e) (lend c b m) s h, answer-status true s (readCommand e) b)
+      rw (served, serve-is p (readCommand e) (lend c b m) ss h, answer-status true s (readCommand e) b)
       (status-back p (readCommand e) (statusOf true s (readCommand e) (length b)) (given .dword0) (status-byte true s (readCommand e) (length b)))
 
   pub call-dword0 : given .dword0 < 256 ^ 4 → readCompletion (run m (commanding p e c b) .after .completion) .dword0 ≡ given .dword0
   call-dword0 small =
-      rw (served, serve-is p (readCommand e) (lend c b m) s h) (dword-back p (readCommand e) (given .status) (given .dword0) small)
+      rw (served, serve-is p (readCommand e) (lend c b m) ss h) (dword-back p (readCommand e) (given .status) (given .dword0) small)
 
   pub call-buffer : run m (commanding p e c b) .after .buffer ≡ given .buffer
-  call-buffer = rw (served, serve-is p (readCommand e) (lend c b m) s h)
+  call-buffer = rw (served, serve-is p (readCommand e) (lend c b m) ss h)
 
-  call-told : told s (commanding p e c b) (run m (commanding p e c b)) ≡ withPairs s (given .pairs)
-  call-told = rw (call-number, call-status, answer-pairs s (readCommand e) b)
+  call-told : told ss (commanding p e c b) (run m (commanding p e c b)) ≡ with (readCommand e .nsid) (given .pairs) ss
+  call-told = rw (call-number, call-status, answer-pairs s (readCommand e) b) (go (eqb (statusOf true s (readCommand e) (length b)) 0))
+    where
+      go : (z : Bool) → cond z (with (readCommand e .nsid) (pairsAfter (readCommand e) b (s .pairs)) ss) ss
+          ≡ with (readCommand e .nsid) (cond z (pairsAfter (readCommand e) b (s .pairs)) (s .pairs)) ss
+      go true = refl
+      go false = sym (with-same (readCommand e .nsid) ss)
 
-  call-holds : Holds (told s (commanding p e c b) (run m (commanding p e c b))) (run m (commanding p e c b) .after .memory)
-  call-holds = rw (call-told, served) (serve-holds p (readCommand e) (lend c b m) s h (entry-key e e64))
+  call-holds : Holds (told ss (commanding p e c b) (run m (commanding p e c b))) (run m (commanding p e c b) .after .memory)
+  call-holds = rw (call-told, served) (serve-holds p (readCommand e) (lend c b m) ss h (entry-key e e64))
 
-  call-kept : Kept (s .index) (s .size) m (run m (commanding p e c b) .after .memory)
-  call-kept = rw served (serve-kept p (readCommand e) (lend c b m) s h (entry-key e e64))
+  call-kept : Kept ss m (run m (commanding p e c b) .after .memory)
+  call-kept = rw served (serve-kept p (readCommand e) (lend c b m) ss h (entry-key e e64))
 
 -- ---- formatting
 
-module _ (i id n : ℕ) (m : Memory) where
-  format-told : (s : Namespace) → Holds s m → Holds (cond (eqb (format i id n m .number) 0) (fresh i id n) s) (format i id n m .after)
-  unfolding format
-  format-told s h = go (eqb (format i id n m .number) 0) refl
-    where
-      go : (z : Bool) → eqb (format i id n m .number) 0 ≡ z → Holds (cond z (fresh i id n) s) (format i id n m .after)
-      go true e = format-holds i id n m (eqb-true _ _ e)
-      go false e = rw (format-refused i id n m e) h
+pub few : (l : Layout) → Few (halves l)
+few (one h) = record { one = omega arith; two = omega arith }
+few (two h k) = record { one = omega arith; two = omega arith }
 
-  pub format-kept : format i id n m .number ≡ 0 → Kept i n m (format i id n m .after)
+module _ (l : Layout) (m : Memory) where
+  format-told : (ss : List Namespace) → Holds ss m → Holds (cond (eqb (format (halves l) m .number) 0) (blanks (halves l)) ss) (format (halves l) m .after)
   unfolding format
-  format-kept e =
-      let w = fresh-within i id n (formattable i id n (length (m .directory)) (length (m .values)) e .permits) in
-      rw e (record {
-        directory = past-put (needed i) (directoryOf (fresh i id n)) (m .directory) (length-directory (fresh i id n) w);
-        values = past-put n (valuesOf (fresh i id n)) (m .values) (length-values (fresh i id n) w);
-      })
+  format-told ss h = go (eqb (format (halves l) m .number) 0) refl
+    where
+      go : (z : Bool) → eqb (format (halves l) m .number) 0 ≡ z → Holds (cond z (blanks (halves l)) ss) (format (halves l) m .after)
+      go true e = format-holds (halves l) m (few l) (eqb-true _ _ e)
+      go false e = rw (format-refused (halves l) m e) h
+
+  pub format-kept : format (halves l) m .number ≡ 0 → Kept (blanks (halves l)) m (format (halves l) m .after)
+  unfolding format
+  format-kept e = rw e (over-kept (blanks (halves l)) m (blanks-within (halves l) (length (m .directory)) (length (m .values)) (few l) e))
 
 -- ---- any call
 
 -- the memory after a command holds what is told of it, and its bytes past the needed part are kept
-told-command : (s : Namespace) (m : Memory) (p : Post) (e c b : List ℕ) → Holds s m
-    → Holds (told s (commanding p e c b) (run m (commanding p e c b))) (run m (commanding p e c b) .after .memory)
-    × Kept (s .index) (s .size) m (run m (commanding p e c b) .after .memory)
-told-command s m p e c b h =
+told-command : (ss : List Namespace) (m : Memory) (p : Post) (e c b : List ℕ) → Holds ss m
+    → Holds (told ss (commanding p e c b) (run m (commanding p e c b))) (run m (commanding p e c b) .after .memory)
+    × Kept ss m (run m (commanding p e c b) .after .memory)
+told-command ss m p e c b h =
     let l = lend c b m in
-    let kept : Kept (s .index) (s .size) m m = record { directory = refl; values = refl } in
+    let kept : Kept ss m m = record { directory = refl; values = refl } in
     elim (known (eqb (length e) 64)) [
       | fails f ↦ rw (command-1 p e l f) (h, kept)
       | holds f ↦
@@ -113,19 +121,19 @@ told-command s m p e c b h =
             | holds g ↦
                 let e64 = eqb-true (length e) 64 f in
                 let c16 = eqb-true (length c) 16 g in
-                (call-holds s m p e c b h e64 c16, call-kept s m p e c b h e64 c16)
+                (call-holds ss m p e c b h e64 c16, call-kept ss m p e c b h e64 c16)
           ]
     ]
 
-pub command-kept : (s : Namespace) (m : Memory) (p : Post) (e c b : List ℕ) → Holds s m
-    → Kept (s .index) (s .size) m (run m (commanding p e c b) .after .memory)
-command-kept s m p e c b h = told-command s m p e c b h .1
+pub command-kept : (ss : List Namespace) (m : Memory) (p : Post) (e c b : List ℕ) → Holds ss m
+    → Kept ss m (run m (commanding p e c b) .after .memory)
+command-kept ss m p e c b h = told-command ss m p e c b h .1
 
-pub told-call : (s : Namespace) (m : Memory) (x : Call) → Holds s m → Holds (told s x (run m x)) (run m x .after .memory)
-told-call s m (commanding p e c b) h = told-command s m p e c b h .0
-told-call s m (formatting i id n) h = format-told i id n m s h
-told-call s m polling h = h
+pub told-call : (ss : List Namespace) (m : Memory) (x : Call) → Holds ss m → Holds (told ss x (run m x)) (run m x .after .memory)
+told-call ss m (commanding p e c b) h = told-command ss m p e c b h .0
+told-call ss m (formatting l) h = format-told l m ss h
+told-call ss m (polling n) h = h
 
-pub told-calls : (s : Namespace) (m : Memory) (xs : List Call) → Holds s m → Holds (stored s m xs) (leaves m xs)
-told-calls s m [] h = h
-told-calls s m (x ∷ xs) h = told-calls (told s x (run m x)) (run m x .after .memory) xs (told-call s m x h)
+pub told-calls : (ss : List Namespace) (m : Memory) (xs : List Call) → Holds ss m → Holds (stored ss m xs) (leaves m xs)
+told-calls ss m [] h = h
+told-calls ss m (x ∷ xs) h = told-calls (told ss x (run m x)) (run m x .after .memory) xs (told-call ss m x h)

@@ -1,11 +1,14 @@
 // The device's calls, in the order of `include/kv.h`.
 use commands::commands::command;
-use commands::formatting::format;
+use formatting::formats::format;
+use formatting::formats::format_two;
+use formatting::measures::Half;
 use room::polls::Room;
 use room::polls::used_room;
 ghost use mathlib.Core.Path.{_≡_};
+ghost use mathlib.Core.List.{[], _∷_};
 ghost use Rattle.memory.specs.Memory.{memory};
-ghost use Rattle.commands.specs.Formatting.{formatted, format};
+ghost use Rattle.formatting.specs.Formatting.{half, formatted, format};
 ghost use Rattle.commands.specs.Command.{post, lent, outcome, command};
 ghost use Rattle.room.specs.Room.{room};
 
@@ -19,9 +22,37 @@ pub extern "C" fn kv_format(
 ) -> u32
     ensures { λ r.
         ⌜ formatted r (memory (now (directory .exit)) (now (values .exit)))
-        ≡ format index id size (memory (now (directory .entry)) (now (values .entry))) ⌝ }
+        ≡ format (half index id size ∷ []) (memory (now (directory .entry)) (now (values .entry))) ⌝ }
 {
-    format(index, id, size, directory, values)
+    format(Half { index, id, size }, directory, values)
+}
+
+#[no_mangle]
+pub extern "C" fn kv_format_two(
+    index1: u32,
+    id1: u32,
+    size1: u64,
+    index2: u32,
+    id2: u32,
+    size2: u64,
+    directory: &mut [u8],
+    values: &mut [u8],
+) -> u32
+    ensures { λ r.
+        ⌜ formatted r (memory (now (directory .exit)) (now (values .exit)))
+        ≡ format (half index1 id1 size1 ∷ half index2 id2 size2 ∷ []) (memory (now (directory .entry)) (now (values .entry))) ⌝ }
+{
+    let first = Half {
+        index: index1,
+        id: id1,
+        size: size1,
+    };
+    let second = Half {
+        index: index2,
+        id: id2,
+        size: size2,
+    };
+    format_two(first, second, directory, values)
 }
 
 #[no_mangle]
@@ -53,8 +84,8 @@ pub extern "C" fn kv_command(
 }
 
 #[no_mangle]
-pub extern "C" fn kv_used(directory: &[u8], values: &[u8]) -> Room
-    ensures { λ r. ⌜ r ≡ room (memory (now (directory .entry)) (now (values .entry))) ⌝ }
+pub extern "C" fn kv_used(id: u32, directory: &[u8], values: &[u8]) -> Room
+    ensures { λ r. ⌜ r ≡ room id (memory (now (directory .entry)) (now (values .entry))) ⌝ }
 {
-    used_room(directory, values)
+    used_room(id, directory, values)
 }

@@ -1,6 +1,6 @@
 -- Host and module agree: what one side wrote the other reads as what was written. Assumes nothing.
 use mathlib.Core.Path.{_≡_, refl, sym, ap, _∙_}
-use mathlib.Core.Bool.{true, false, _||_}
+use mathlib.Core.Bool.{Bool, true, false, cond, _||_}
 use mathlib.Core.List.{List, []}
 use Prim.Native.Nat.{ℕ, _^_, _≤_, _<_}
 use native.Mathlib.Omega.{arith}
@@ -18,13 +18,15 @@ use Rattle.wire.proofs.EntryLaws.{length-command}
 use Rattle.store.specs.Maps.{keys}
 use Rattle.store.specs.Namespace.{Namespace, within}
 use Rattle.memory.proofs.ImageLaws.{legal-holds}
-use Rattle.memory.specs.Memory.{namespaceOf, legal, Memory}
+use Rattle.memory.specs.Namespaces.{at, held}
+use Rattle.memory.specs.Memory.{namespacesOf, legal, Memory}
+use Rattle.memory.proofs.NameLaws.{at-id, at-within, at-none}
 use Rattle.store.proofs.NamespaceLaws.{Within, within-true}
 use Rattle.commands.specs.Answer.{dwordAfter, answer}
-use Rattle.commands.specs.Steps.{statusOf}
+use Rattle.rules.specs.Steps.{statusOf}
 use Rattle.commands.specs.Command.{Post, Lent, respond, serve, Outcome, command}
-use Rattle.commands.proofs.StepLaws.{status-byte, illegal}
-use Rattle.commands.proofs.AnswerLaws.{answer-status}
+use Rattle.rules.proofs.StepLaws.{status-byte, illegal}
+use Rattle.commands.proofs.AnswerLaws.{answer-status, unrefused, value-small}
 use Rattle.commands.proofs.CommandLaws.{command-0}
 use Rattle.host.specs.Build as Build
 use Rattle.host.specs.Reply.{numbered, reply}
@@ -32,7 +34,7 @@ use Rattle.host.specs.PageKey.{given, pageKey}
 use Rattle.host.proofs.BuildLaws.{build-0, build-key, build-clear, build-read}
 use Rattle.host.proofs.ReplyLaws.{reply-back}
 use Rattle.promises.specs.Agreement.{Ask, builds, Askable, Asked, Postable, posted}
-use Rattle.promises.proofs.ShownLaws.{value-small, shown-read}
+use Rattle.promises.proofs.ShownLaws.{shown-read}
 
 -- ---- an entry that was built
 
@@ -87,23 +89,38 @@ cleared = never-stale (replicate 64 0xff) keyless refl
 
 -- ---- a completion that was posted
 
-dword-small : (s : Namespace) (c : Command) → Within s → dwordAfter c (s .pairs) ≤ 4096
-dword-small s c w = elim (known (isRetrieve (c .opcode))) [ holds e ↦ rw e (value-small s w (keyOf c)) | fails e ↦ rw e (omega arith) ]
+dword-within : (s : Namespace) (c : Command) → Within s → dwordAfter c (s .pairs) ≤ 4096
+dword-within s c w = elim (known (isRetrieve (c .opcode))) [ holds e ↦ rw e (value-small s w (keyOf c)) | fails e ↦ rw e (omega arith) ]
+
+-- of the namespace that n names, and of none where there is none
+dword-small : (n : ℕ) (m : Memory) (c : Command) → legal m ≡ true → dwordAfter c (at n (namespacesOf m) .pairs) ≤ 4096
+dword-small n m c e =
+    let ss = namespacesOf m in
+    elim (known (held n ss)) [
+      | holds q ↦ dword-within (at n ss) c (at-within n ss (legal-holds m e .within .each) q)
+      | fails q ↦ rw (at-none n ss q) (none (isRetrieve (c .opcode)))
+    ]
+  where
+    none : (z : Bool) → cond z 0 0 ≤ 4096
+    none true = omega arith
+    none false = omega arith
 
 -- Dword 0 is at most the longest value that a format allows, whatever stands in the memory
 pub respond-dword0 : (c : Command) (b : List ℕ) (m : Memory) → respond c b m .dword0 ≤ 4096
 unfolding respond answer
 respond-dword0 c b m =
-    let s = namespaceOf m in
+    let s = at (c .nsid) (namespacesOf m) in
     let st = statusOf true s c (length b) in
     elim (known (legal m)) [
-      | holds e ↦ elim (known (eqb st 0)) [ holds z ↦ rw (e, z) (dword-small s c (legal-holds m e .within)) | fails z ↦ rw (e, z) (omega arith) ]
+      | holds e ↦ elim (known (eqb st 0)) [ holds z ↦ rw (e, z) (dword-small (c .nsid) m c e) | fails z ↦ rw (e, z) (omega arith) ]
       | fails e ↦ rw (e, illegal s c (length b)) (omega arith)
     ]
 
 respond-status : (c : Command) (b : List ℕ) (m : Memory) → respond c b m .status < 256
 unfolding respond
-respond-status c b m = rw (answer-status (legal m) (namespaceOf m) c b) (status-byte (legal m) (namespaceOf m) c (length b))
+respond-status c b m =
+    let s = at (c .nsid) (namespacesOf m) in
+    rw (answer-status (legal m) s c b) (status-byte (legal m) s c (length b))
 
 -- the host reads what the module answered
 pub reply-agrees : (p : Post) (c : Command) (l : Lent) → Postable p → c .cid < 2 ^ 16
@@ -145,12 +162,16 @@ page-key-agrees s n k b o e = ap (λ (r : Reading). pageKey r o) (page-agrees s 
 -- and so of the buffer that a List leaves, whatever the memory
 pub list-agrees : (p : Post) (c : Command) (l : Lent) → isList (c .opcode) ≡ true → respond c (l .buffer) (l .memory) .status ≡ 0
     → readPage (serve p c l .buffer)
-    ≡ reading (shown (c .amount) (keyOf c) (keys (namespaceOf (l .memory) .pairs)))
+    ≡ reading (shown (c .amount) (keyOf c) (keys (at (c .nsid) (namespacesOf (l .memory)) .pairs)))
 unfolding serve respond answer
 list-agrees p c l o e =
-    let s = namespaceOf (l .memory) in
+    let s = at (c .nsid) (namespacesOf (l .memory)) in
     let st = sym (answer-status (legal (l .memory)) s c (l .buffer)) ∙ e in
     elim (known (legal (l .memory))) [
-      | holds f ↦ rw (st, eqb-true (c .opcode) 0x06 o) (shown-read s (legal-holds (l .memory) f .within) (c .amount) (keyOf c) (l .buffer))
+      | holds f ↦
+          let ss = namespacesOf (l .memory) in
+          let i = unrefused true s c (length (l .buffer)) (rw f at st) .early .same in
+          let w = at-within (c .nsid) ss (legal-holds (l .memory) f .within .each) (sym (at-id (c .nsid) ss) ∙ eq-eqb (c .nsid) (s .id) i) in
+          rw (st, eqb-true (c .opcode) 0x06 o) (shown-read s w (c .amount) (keyOf c) (l .buffer))
       | fails f ↦ absurd (omega (arith, rw f at st, illegal s c (length (l .buffer))))
     ]

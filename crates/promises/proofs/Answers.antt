@@ -1,5 +1,5 @@
--- After a formatting of any bytes and any calls, each command is answered as the map that the history tells answers it; with it, what
--- else follows of Delete and of Store's options. Assumes nothing.
+-- After a formatting of any bytes and any calls, each command is answered as the map that the history tells of its namespace answers it; with
+-- it, what else follows of Delete and of Store's options. Assumes nothing.
 use mathlib.Core.Path.{_≡_, refl, sym, _∙_}
 use mathlib.Core.Bool.{Bool, true}
 use mathlib.Core.List.{List, [], _∷_, _++_}
@@ -8,71 +8,70 @@ use Prim.Native.Nat.{ℕ, _%_, _/_, _≤_}
 use native.Mathlib.Omega.{arith}
 use lib.ListN.{length}
 use borrow.Author.Tests.{eqb-true}
-use Rattle.octets.specs.Octets.{part, put, number, filled, zeros}
+use Rattle.octets.specs.Octets.{part, number, filled, zeros}
 use Rattle.octets.specs.Keys.{Key}
 use Rattle.octets.proofs.TestLaws.{contrary, both}
 use Rattle.wire.specs.declared.entries.Command.{Command}
 use Rattle.wire.specs.Entry.{readCommand, writeCommand, isStore}
-use Rattle.wire.specs.Completion.{readCompletion, writeCompletion}
 use Rattle.store.specs.Maps.{lookup, erase}
-use Rattle.store.specs.Namespace.{Namespace, within}
-use Rattle.store.specs.Records.{recordOf, recordsPart, valuesPart}
-use Rattle.memory.specs.Memory.{Memory, formatSteps, halfOf, labelIn, directoryOf, valuesOf, namespaceOf, legal}
+use Rattle.store.specs.Namespace.{Namespace}
+use Rattle.memory.specs.Namespaces.{at}
+use Rattle.memory.specs.Memory.{Memory}
 use Rattle.memory.proofs.ImageLaws.{Holds, holds-back, holds-legal}
-use Rattle.commands.specs.Steps.{steps, statusOf}
+use Rattle.rules.specs.Steps.{statusOf}
 use Rattle.commands.specs.Answer.{answer}
-use Rattle.commands.specs.Formatting.{format}
-use Rattle.commands.specs.Command.{Post, post, respond, serve, command}
+use Rattle.commands.specs.Command.{Post, post, respond, command}
 use Rattle.module.specs.History.{Call, commanding, run, succeeded}
 use Rattle.commands.proofs.AnswerLaws.{answer-status, unrefused}
 use Rattle.module.proofs.HistoryLaws.{call-number, call-status, call-dword0, call-buffer}
-use Rattle.promises.specs.Histories.{Start, begun, memoryAfter, storedAfter}
-use Rattle.promises.specs.Requests.{Request, call, sends, bothBits, refusal, Proper, Gives, Answered}
+use Rattle.promises.specs.Histories.{Start, begun, memoryAfter, storedAfter, storedIn}
+use Rattle.promises.specs.Requests.{Request, call, sends, bothBits, Proper, Gives, Answered}
 use Rattle.promises.specs.Retrieves.{valueIn, Since}
 use Rattle.promises.proofs.Agreement.{respond-dword0}
 use Rattle.promises.proofs.Retrieve.{held-stored, held-status}
 use Rattle.promises.proofs.RequestLaws.{holds-after, gives}
 use Rattle.promises.proofs.Bits.{low-bit, high-bit}
 use Rattle.promises.proofs.AnyMemory.{any-status}
-use Rattle.promises.proofs.Examples.{start, start-begun, request, A, store}
+use Rattle.promises.proofs.Examples.{onMemory, start, start-begun, request, A, store}
 
 -- ---- a command on memory that holds s
 
 -- Dword 0 is at most the longest value
-dword-small : (s : Namespace) (m : Memory) (c : Command) (b : List ℕ) → Holds s m → answer true s c b .dword0 ≤ 4096
+dword-small : (ss : List Namespace) (m : Memory) (c : Command) (b : List ℕ) → Holds ss m → answer true (at (c .nsid) ss) c b .dword0 ≤ 4096
 unfolding respond
-dword-small s m c b h = rw (holds-legal h, holds-back h) at (respond-dword0 c b m)
+dword-small ss m c b h = rw (holds-legal h, holds-back h) at (respond-dword0 c b m)
 
-pub held-answers : (s : Namespace) (m : Memory) (p : Post) (e c b : List ℕ) → Holds s m → length e ≡ 64 → length c ≡ 16
-    → Answered (answer true s (readCommand e) b) (run m (commanding p e c b))
-held-answers s m p e c b h e64 c16 =
+pub held-answers : (ss : List Namespace) (m : Memory) (p : Post) (e c b : List ℕ) → Holds ss m → length e ≡ 64 → length c ≡ 16
+    → Answered (answer true (at (readCommand e .nsid) ss) (readCommand e) b) (run m (commanding p e c b))
+held-answers ss m p e c b h e64 c16 =
     record {
-      number = call-number s m p e c b h e64 c16;
-      status = call-status s m p e c b h e64 c16 ∙ sym (answer-status true s (readCommand e) b);
-      dword0 = call-dword0 s m p e c b h e64 c16 (omega (arith, dword-small s m (readCommand e) b h));
-      buffer = call-buffer s m p e c b h e64 c16;
+      number = call-number ss m p e c b h e64 c16;
+      status = call-status ss m p e c b h e64 c16 ∙ sym (answer-status true (at (readCommand e .nsid) ss) (readCommand e) b);
+      dword0 = call-dword0 ss m p e c b h e64 c16 (omega (arith, dword-small ss m (readCommand e) b h));
+      buffer = call-buffer ss m p e c b h e64 c16;
     }
 
 -- ---- the promise
 
 pub answers : (a : Start) (xs : List Call) (p : Post) (e c b : List ℕ) → begun a .number ≡ 0 → length e ≡ 64 → length c ≡ 16
-    → Answered (answer true (storedAfter a xs) (readCommand e) b) (run (memoryAfter a xs) (commanding p e c b))
+    → Answered (answer true (storedIn (readCommand e .nsid) a xs) (readCommand e) b) (run (memoryAfter a xs) (commanding p e c b))
 answers a xs p e c b ok = held-answers (storedAfter a xs) (memoryAfter a xs) p e c b (holds-after a xs ok)
 
 -- ---- Delete after Store
 
-deleted : (s : Namespace) (m : Memory) (k : Key) (r : Request) (v : List ℕ) → Holds s m → lookup k (s .pairs) ≡ some v → Proper s 0x10 k r
-    → Gives 0x00 0 (r .buffer) (sends m r)
+deleted : (n : ℕ) (ss : List Namespace) (m : Memory) (k : Key) (r : Request) (v : List ℕ) → Holds ss m → lookup k (at n ss .pairs) ≡ some v
+    → Proper n (at n ss) 0x10 k r → Gives 0x00 0 (r .buffer) (sends m r)
 unfolding answer
-deleted s m k r v h e p =
-    gives s m r h (p .passes) (record { status = 0; dword0 = 0; buffer = r .buffer; pairs = erase k (s .pairs) })
-    (rw (held-status s k 0x10 r p refl v e, p .opcode, p .key)) (omega arith)
+deleted n ss m k r v h e p =
+    let s = at n ss in
+    gives n ss m r h (p .nsid) (p .passes) (record { status = 0; dword0 = 0; buffer = r .buffer; pairs = erase k (s .pairs) })
+    (rw (held-status n s k 0x10 r p refl v e, p .opcode, p .key)) (omega arith)
 
 -- the history is xs, then x, then ys; r is sent after it
-pub delete-after-store : (a : Start) (xs : List Call) (x : Request) (ys : List Call) (k : Key) (r : Request) → Since a xs x ys 0x01 k
-    → Proper (storedAfter a (xs ++ call x ∷ ys)) 0x10 k r → Gives 0x00 0 (r .buffer) (sends (memoryAfter a (xs ++ call x ∷ ys)) r)
-delete-after-store a xs x ys k r since =
-    deleted _ _ k r (valueIn x) (holds-after a (xs ++ call x ∷ ys) (since .formatted)) (held-stored a xs x ys 0x01 k since refl)
+pub delete-after-store : (a : Start) (xs : List Call) (x : Request) (ys : List Call) (n : ℕ) (k : Key) (r : Request) → Since a xs x ys 0x01 n k
+    → Proper n (storedIn n a (xs ++ call x ∷ ys)) 0x10 k r → Gives 0x00 0 (r .buffer) (sends (memoryAfter a (xs ++ call x ∷ ys)) r)
+delete-after-store a xs x ys n k r since =
+    deleted n _ _ k r (valueIn x) (holds-after a (xs ++ call x ∷ ys) (since .formatted)) (held-stored a xs x ys 0x01 n k since refl)
 
 -- ---- Store with both option bits
 
@@ -104,20 +103,18 @@ abbrev delete : Request
 delete = request 0x10 A 0 []
 
 retrieved : Gives 0x00 2 (5 ∷ 2 ∷ 3 ∷ []) (sends (memoryAfter (start 7) stored) retrieve)
-unfolding format formatSteps readCommand writeCommand part put number answer statusOf steps readCompletion writeCompletion
-    within halfOf labelIn recordOf recordsPart valuesPart directoryOf valuesOf namespaceOf legal respond serve command
+unfolding onMemory
 retrieved = answers (start 7) stored (retrieve .post) (retrieve .entry) (retrieve .completion) (retrieve .buffer) (start-begun 7) refl refl
 
-after-store : Since (start 7) [] (store A (5 ∷ 6 ∷ [])) [] 0x01 A × Proper (storedAfter (start 7) stored) 0x10 A delete
-unfolding format formatSteps readCommand writeCommand part put number answer statusOf steps readCompletion writeCompletion
-    within halfOf labelIn recordOf recordsPart valuesPart directoryOf valuesOf namespaceOf legal respond serve command refusal
+after-store : Since (start 7) [] (store A (5 ∷ 6 ∷ [])) [] 0x01 1 A × Proper 1 (storedIn 1 (start 7) stored) 0x10 A delete
+unfolding onMemory
 after-store = (
-  record { formatted = refl; opcode = refl; key = refl; done = refl; spared = refl },
-  record { opcode = refl; key = refl; passes = refl },
+  record { formatted = refl; nsid = refl; opcode = refl; key = refl; done = refl; spared = refl },
+  record { nsid = refl; opcode = refl; key = refl; passes = refl },
 )
 
 deletes : Gives 0x00 0 [] (sends (memoryAfter (start 7) stored) delete)
-deletes = delete-after-store (start 7) [] (store A (5 ∷ 6 ∷ [])) [] A delete (after-store .0) (after-store .1)
+deletes = delete-after-store (start 7) [] (store A (5 ∷ 6 ∷ [])) [] 1 A delete (after-store .0) (after-store .1)
 
 -- all eight option bits
 abbrev both-A : List ℕ

@@ -7,17 +7,23 @@ use native.Mathlib.Omega.{arith}
 use lib.ListN.{length}
 use lib.Dec.{eqb}
 use Rattle.wire.specs.Entry.{readCommand}
-use Rattle.memory.specs.Memory.{Memory, namespaceOf, legal}
-use Rattle.commands.specs.Steps.{statusOf}
+use Rattle.store.specs.Namespace.{Namespace}
+use Rattle.memory.specs.Namespaces.{at}
+use Rattle.memory.specs.Memory.{Memory, namespacesOf, legal}
+use Rattle.rules.specs.Steps.{statusOf}
 use Rattle.commands.specs.Command.{Post, respond, serve, Outcome, outcome}
 use Rattle.module.specs.History.{commanding, lend, run}
-use Rattle.commands.proofs.StepLaws.{status-byte}
+use Rattle.rules.proofs.StepLaws.{status-byte}
 use Rattle.commands.proofs.AnswerLaws.{answer-status}
 use Rattle.commands.proofs.CommandLaws.{command-0, command-1, command-2}
 use Rattle.module.proofs.HistoryLaws.{status-back}
 use Rattle.promises.specs.Calls.{status}
 
 module _ (m : Memory) (p : Post) (e c b : List ℕ) where
+  -- the namespace that it names, if memory is legal
+  abbrev s : Namespace
+  s = at (readCommand e .nsid) (namespacesOf m)
+
   -- number 0: the command is carried out
   pub any-served : run m (commanding p e c b) .number ≡ 0 → run m (commanding p e c b) ≡ outcome 0 (serve p (readCommand e) (lend c b m))
   any-served n = go (eqb (length e) 64) refl (eqb (length c) 16) refl
@@ -30,10 +36,10 @@ module _ (m : Memory) (p : Post) (e c b : List ℕ) where
 
   -- and its completion has the status of the steps
   pub any-status : run m (commanding p e c b) .number ≡ 0
-      → status (run m (commanding p e c b)) ≡ statusOf (legal m) (namespaceOf m) (readCommand e) (length b)
+      → status (run m (commanding p e c b)) ≡ statusOf (legal m) s (readCommand e) (length b)
   unfolding serve respond
   any-status n =
       let k = readCommand e in
-      let st = answer-status (legal m) (namespaceOf m) k b in
+      let st = answer-status (legal m) s k b in
       ap (λ (o : Outcome). status o) (any-served n)
-      ∙ rw st (status-back p k (statusOf (legal m) (namespaceOf m) k (length b)) _ (status-byte (legal m) (namespaceOf m) k (length b)))
+      ∙ rw st (status-back p k (statusOf (legal m) s k (length b)) _ (status-byte (legal m) s k (length b)))

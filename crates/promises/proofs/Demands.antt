@@ -2,13 +2,15 @@
 use mathlib.Core.Path.{_≡_, refl, sym, ap, _∙_}
 use mathlib.Core.Bool.{Bool, true, not, _&&_}
 use mathlib.Core.List.{List, [], _∷_, _++_}
+use Prim.Native.Nat.{ℕ}
 use lib.ListN.{length}
 use borrow.Author.Tests.{eqb-true}
 use Rattle.octets.proofs.TestLaws.{both}
 use Rattle.wire.specs.Page.{Reading}
 use Rattle.store.specs.Namespace.{Namespace}
+use Rattle.memory.specs.Namespaces.{at as named}
 use Rattle.memory.proofs.ImageLaws.{Holds, holds-back, holds-legal}
-use Rattle.commands.specs.Steps.{statusOf}
+use Rattle.rules.specs.Steps.{statusOf}
 use Rattle.commands.specs.Answer.{answer}
 use Rattle.commands.specs.Command.{Outcome}
 use Rattle.module.specs.History.{Call, lend, run, leaves, stored}
@@ -59,27 +61,28 @@ real-opens a ok = ok
 
 pub real-accepts : (xs : List Call) → Accepts xs real
 real-accepts xs a x ok e64 c16 st =
-    let s = reached real a xs .stored in
-    let g = held-answers s (reached real a xs .memory) (x .post) (x .entry) (x .completion) (x .buffer) (holds-reached a xs ok) e64 c16 in
-    rw (g .number, g .status ∙ answer-status true s (asked x) (x .buffer) ∙ st)
+    let ss = reached real a xs .stored in
+    let g = held-answers ss (reached real a xs .memory) (x .post) (x .entry) (x .completion) (x .buffer) (holds-reached a xs ok) e64 c16 in
+    rw (g .number, g .status ∙ answer-status true (named (asked x .nsid) ss) (asked x) (x .buffer) ∙ st)
 
 pub real-retrieves : Retrieves real
-real-retrieves a xs x ys k r since p =
-    let spared : never (touches k) (sends (reached real a xs .memory) x .after .memory) ys ≡ true =
-    sym (never-is (touches k) (moved real (reached real a xs) (call x)) ys) ∙ since .spared in
-    let n : Since a xs x ys 0x01 k =
+real-retrieves a xs x ys n k r since p =
+    let spared : never (touches n k) (sends (reached real a xs .memory) x .after .memory) ys ≡ true =
+    sym (never-is (touches n k) (moved real (reached real a xs) (call x)) ys) ∙ since .spared in
+    let q : Since a xs x ys 0x01 n k =
     record {
       formatted = since .formatted;
+      nsid = since .nsid;
       opcode = since .opcode;
       key = since .key;
       done = rw (memory-is a xs) at (since .done);
       spared = rw (memory-is a xs) at spared;
     } in
-    rw (memory-is a (xs ++ call x ∷ ys)) (retrieve-after-store a xs x ys k r n (rw (stored-is a (xs ++ call x ∷ ys)) at p))
+    rw (memory-is a (xs ++ call x ∷ ys)) (retrieve-after-store a xs x ys n k r q (rw (stored-is a (xs ++ call x ∷ ys)) at p))
 
 pub real-misses : Misses real
-real-misses a xs op k r ok e o p =
-    rw (memory-is a xs) (absent-87h a xs op k r ok (rw (stored-is a xs) at e) o (rw (stored-is a xs) at p))
+real-misses a xs op n k r ok e o p =
+    rw (memory-is a xs) (absent-87h a xs op n k r ok (rw (stored-is a xs) at e) o (rw (stored-is a xs) at p))
 
 pub real-images : Images real
 real-images a xs ok = rw (stored-is a xs, memory-is a xs) (history a xs ok)
@@ -87,7 +90,8 @@ real-images a xs ok = rw (stored-is a xs, memory-is a xs) (history a xs ok)
 pub real-pages : Pages real
 unfolding answer
 real-pages a xs r ok o done =
-    let s = reached real a xs .stored in
+    let ss = reached real a xs .stored in
+    let s = named (asked r .nsid) ss in
     let m = reached real a xs .memory in
     let h = holds-reached a xs ok in
     let q = both _ _ done in
@@ -95,21 +99,22 @@ real-pages a xs r ok o done =
     let st : statusOf true s (asked r) (length (r .buffer)) ≡ 0 =
     rw (holds-legal h, holds-back h) at (sym (any-status m (r .post) (r .entry) (r .completion) (r .buffer) n) ∙ eqb-true _ 0 (q .1)) in
     ap (λ (o : Outcome). o .after .buffer) (any-served m (r .post) (r .entry) (r .completion) (r .buffer) n)
-    ∙ rw (serve-is (r .post) (asked r) (lend (r .completion) (r .buffer) m) s h, st, eqb-true (asked r .opcode) 0x06 o)
+    ∙ rw (serve-is (r .post) (asked r) (lend (r .completion) (r .buffer) m) ss h, st, eqb-true (asked r .opcode) 0x06 o)
 
 -- ---- the walk
 
-onward-real : {s : Namespace} {f : Bool} {q : Point} {r : Reading} {pages : List Reading} → OnwardOn (on real) s f q r pages → Onward s f (q .memory) r pages
+onward-real : {n : ℕ} {s : Namespace} {f : Bool} {q : Point} {r : Reading} {pages : List Reading} → OnwardOn (on real) n s f q r pages
+    → Onward n s f (q .memory) r pages
 onward-real ended = ended
 onward-real paused = paused
-onward-real {s = s} (next {f = f} {m = q} {k = k} {ks = ks} {pages = pages} xs x calm l walk) =
-    let tail : Onward s f (run (goes real q xs .memory) (call x) .after .memory) (newOn (lastOf k ks) (pageRead (goes real q xs .memory) x)) pages =
+onward-real {n = n} {s = s} (next {f = f} {m = q} {k = k} {ks = ks} {pages = pages} xs x calm l walk) =
+    let tail : Onward n s f (run (goes real q xs .memory) (call x) .after .memory) (newOn (lastOf k ks) (pageRead (goes real q xs .memory) x)) pages =
     onward-real walk in
-    next xs x (sym (never-is changes q xs) ∙ calm) l (rw (goes-memory q xs) at tail)
+    next xs x (sym (never-is (changes n) q xs) ∙ calm) l (rw (goes-memory q xs) at tail)
 
 pub real-walks : Walks real
-real-walks a xs f pages ok w =
-    let s = reached real a xs .stored in
+real-walks a xs n f pages ok w =
+    let s = named n (reached real a xs .stored) in
     let m = reached real a xs .memory in
-    let walk : Walk s m f pages = record { first = w .first; lists = w .lists; onward = onward-real (w .onward) } in
-    rw (stored-is a xs) (walk-finds-all a xs ok (rw (stored-is a xs, memory-is a xs) at walk) .0)
+    let walk : Walk n s m f pages = record { first = w .first; lists = w .lists; onward = onward-real (w .onward) } in
+    rw (stored-is a xs) (walk-finds-all a xs n ok (rw (stored-is a xs, memory-is a xs) at walk) .0)

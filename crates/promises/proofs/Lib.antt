@@ -1,5 +1,6 @@
 -- The theorems: over histories, of host and module together, of each contract, and of the stand-ins; the other files serve them.
 pub mod History
+pub mod Images
 pub mod Walk
 pub mod Retrieve
 pub mod StoreAgain

@@ -10,17 +10,12 @@ use lib.ListN.{length, drop}
 use Rattle.octets.specs.Octets.{part, put, number}
 use Rattle.octets.proofs.NumberLaws.{number-bytes}
 use Rattle.octets.proofs.TestLaws.{contrary}
-use Rattle.wire.specs.Entry.{readCommand, writeCommand}
-use Rattle.wire.specs.Completion.{readCompletion, writeCompletion}
-use Rattle.wire.specs.Page.{pageEntry, page}
+use Rattle.wire.specs.Entry.{readCommand}
+use Rattle.wire.specs.Page.{page}
 use Rattle.wire.proofs.PageLaws.{page-back}
-use Rattle.store.specs.Namespace.{within}
-use Rattle.store.specs.Records.{recordOf, recordsPart, valuesPart}
-use Rattle.memory.specs.Memory.{formatSteps, halfOf, labelIn, directoryOf, valuesOf, namespaceOf, legal}
-use Rattle.commands.specs.Steps.{steps, statusOf}
-use Rattle.commands.specs.Answer.{answer}
-use Rattle.commands.specs.Formatting.{format}
-use Rattle.commands.specs.Command.{respond, serve, command}
+use Rattle.memory.specs.Namespaces.{at as named}
+use Rattle.rules.specs.Steps.{statusOf}
+use Rattle.commands.specs.Command.{command}
 use Rattle.module.specs.History.{Call, formatting, commanding, polling, run, succeeded}
 use Rattle.module.proofs.HistoryLaws.{status-back}
 use Rattle.promises.specs.Requests.{Request, call, asked}
@@ -31,7 +26,7 @@ use Rattle.promises.specs.StandIns.{Says, Leaves, Forgets, Idles, Posts,
 use Rattle.promises.proofs.Demands.{real-accepts}
 use Rattle.promises.proofs.StandIns.{says-81h-rejected, says-00h-rejected, leaves-rejected, leaves-no-image, idles-rejected, posts-rejected}
 use Rattle.promises.proofs.StandIns.{invents-rejected, counts-rejected, empties-rejected}
-use Rattle.promises.proofs.Examples.{start, A, store, list}
+use Rattle.promises.proofs.Examples.{onMemory, start, A, store, list}
 
 pub saying-says : (st : ℕ) → st < 256 → Says st (saying st)
 saying-says st h before m p e c b done = status-back p (readCommand e) st 0 h
@@ -45,9 +40,9 @@ pub staying-leaves : Leaves staying
 staying-leaves before m p e c b = refl
 
 pub staying-forgets : Forgets staying
-staying-forgets before earlier m (formatting i id n) = refl
+staying-forgets before earlier m (formatting l) = refl
 staying-forgets before earlier m (commanding p e c b) = refl
-staying-forgets before earlier m polling = refl
+staying-forgets before earlier m (polling n) = refl
 
 pub staying-opens : Opens staying
 staying-opens a ok = ok
@@ -85,8 +80,7 @@ unfolding put page
 counting-empties before m p e c b is ok = page-back [] (drop 4 (run m (commanding p e c b) .after .buffer)) (omega arith) tt tt
 
 pub counting-invents : Invents (counting (λ k. k + 1))
-unfolding format formatSteps readCommand writeCommand part put number pageEntry page answer statusOf steps readCompletion writeCompletion
-    within halfOf labelIn recordOf recordsPart valuesPart directoryOf valuesOf namespaceOf legal respond serve command
+unfolding onMemory
 counting-invents =
     record {
       start = start 7;
@@ -104,12 +98,12 @@ module _ (f : ℕ → ℕ) where
 
   goes-same : (q : Point) (xs : List Call) → goes (counting f) q xs ≡ goes real q xs
   goes-same q [] = refl
-  goes-same q (formatting i id n ∷ xs) = goes-same (moved real q (formatting i id n)) xs
+  goes-same q (formatting l ∷ xs) = goes-same (moved real q (formatting l)) xs
   goes-same q (commanding p e c b ∷ xs) = goes-same (moved real q (commanding p e c b)) xs
-  goes-same q (polling ∷ xs) = goes-same (moved real q polling) xs
+  goes-same q (polling n ∷ xs) = goes-same (moved real q (polling n)) xs
 
   abbrev Right : Request → Point → Type 0
-  Right x q = statusOf true (q .stored) (asked x) (length (x .buffer)) ≡ 0 → succeeded (at (counting f) q (call x)) ≡ true
+  Right x q = statusOf true (named (asked x .nsid) (q .stored)) (asked x) (length (x .buffer)) ≡ 0 → succeeded (at (counting f) q (call x)) ≡ true
 
   pub counting-accepts : (xs : List Call) → Accepts xs (counting f)
   counting-accepts xs a x ok e64 c16 = subst (Right x) (sym (goes-same (opened (counting f) a) xs)) (real-accepts xs a x ok e64 c16)

@@ -10,13 +10,15 @@ use Rattle.octets.proofs.TestLaws.{neither, contrary}
 use Rattle.wire.specs.declared.entries.Command.{Command}
 use Rattle.wire.specs.Entry.{readCommand, writeCommand, isStore, isDelete}
 use Rattle.store.specs.Namespace.{Namespace}
-use Rattle.memory.specs.Memory.{Memory, imageOver, namespaceOf, legal}
+use Rattle.memory.specs.Namespaces.{at}
+use Rattle.memory.specs.Memory.{Memory, imageOver, namespacesOf, legal}
+use Rattle.memory.proofs.NameLaws.{with-same}
 use Rattle.memory.proofs.ImageLaws.{Holds, legal-holds, holds-over}
-use Rattle.commands.specs.Steps.{statusOf}
+use Rattle.rules.specs.Steps.{statusOf}
 use Rattle.commands.specs.Answer.{answer, answerAt}
 use Rattle.commands.specs.Command.{Post, Lent, serve}
 use Rattle.module.specs.History.{commanding, lend, run}
-use Rattle.commands.proofs.StepLaws.{illegal}
+use Rattle.rules.proofs.StepLaws.{illegal}
 use Rattle.commands.proofs.CommandLaws.{serve-is, serve-refused}
 use Rattle.promises.specs.Histories.{memoryAfter, writes}
 use Rattle.promises.specs.Requests.{call, sends}
@@ -40,10 +42,13 @@ keeps-memory p c l o = go (legal (l .memory)) refl
     m : Memory
     m = l .memory
 
-    s : Namespace
-    s = namespaceOf m
+    ss : List Namespace
+    ss = namespacesOf m
 
-    kept : Holds s m → (z : Bool) → cond z (imageOver s m) m ≡ m
+    s : Namespace
+    s = at (c .nsid) ss
+
+    kept : Holds ss m → (z : Bool) → cond z (imageOver ss m) m ≡ m
     kept h true = holds-over h
     kept h false = refl
 
@@ -51,7 +56,7 @@ keeps-memory p c l o = go (legal (l .memory)) refl
     go true e =
         let h = legal-holds m e in
         let n = neither _ _ o in
-        rw (serve-is p c l s h, keeps-pairs s c (l .buffer) (n .0) (n .1)) (kept h (eqb (answer true s c (l .buffer) .status) 0))
+        rw (serve-is p c l ss h, keeps-pairs s c (l .buffer) (n .0) (n .1), with-same (c .nsid) ss) (kept h (eqb (answer true s c (l .buffer) .status) 0))
     go false e = serve-refused p c l (rw (e, illegal s c (length (l .buffer)))) .1
 
 -- ---- the promise

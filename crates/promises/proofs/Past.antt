@@ -1,60 +1,99 @@
 -- Bytes past the needed part change no outcome: on memories that differ in them alone each call gives the same number, completion and
 -- data buffer, a poll the same used room, and memories that differ in them alone. Assumes nothing.
 use mathlib.Core.Path.{_≡_, refl, sym, ap, _∙_}
-use mathlib.Core.Bool.{Bool, true, false}
+use mathlib.Core.Bool.{Bool, true, false, cond}
 use mathlib.Core.List.{List, [], _∷_}
-use Prim.Native.Nat.{ℕ, _+_, _≤_}
+use Prim.Native.Nat.{ℕ, _+_, _*_, _≤_}
 use native.Mathlib.Omega.{arith}
 use lib.Dec.{eqb, ltb}
 use lib.ListN.{length, take, length-take}
 use borrow.Author.Tests.{eqb-true, ltb-true, ltb-false}
-use Rattle.octets.specs.Octets.{part, put, number}
+use Rattle.octets.specs.Octets.{part}
 use Rattle.octets.proofs.TestLaws.{contrary}
 use Rattle.octets.proofs.PartLaws.{part-take}
 use Rattle.wire.specs.declared.entries.Command.{Command}
 use Rattle.wire.specs.Entry.{readCommand}
+use Rattle.store.specs.declared.namespaces.Label.{Label}
+use Rattle.store.specs.Formats.{slots}
+use Rattle.store.specs.Maps.{Pair}
 use Rattle.store.specs.Namespace.{Namespace}
-use Rattle.store.specs.Records.{recordOf, recordsPart, valuesPart}
-use Rattle.memory.specs.Memory.{Memory, needed, formatSteps, halfOf, labelIn, directoryOf, valuesOf, namespaceOf, legal}
+use Rattle.memory.specs.Namespaces.{total, slotsOf, sizeOf, with}
+use Rattle.memory.proofs.NameLaws.{with-total}
+use Rattle.memory.specs.Memory.{Memory, needed, neededValues, labelAt, labelIn, namespaceAt, namespacesOf, legal}
 use Rattle.memory.proofs.ImageLaws.{Holds, holds-back, holds-legal, legal-holds}
-use Rattle.commands.specs.Steps.{steps, statusOf}
+use Rattle.rules.specs.Steps.{steps, statusOf}
+use Rattle.formatting.specs.declared.measures.Half.{Half}
+use Rattle.formatting.specs.Formatting.{blanks, formatSteps, format}
+use Rattle.formatting.proofs.FormatLaws.{format-holds, format-refused}
 use Rattle.commands.specs.Answer.{answer}
-use Rattle.commands.specs.Formatting.{format}
 use Rattle.commands.specs.Command.{Post, completionOf, Lent, respond, serve, outcome}
+use Rattle.commands.proofs.CommandLaws.{entry-key, serve-is, serve-holds, command-0, command-1, command-2}
 use Rattle.room.specs.declared.polls.Room.{Room}
 use Rattle.room.specs.Room.{room}
 use Rattle.room.proofs.PollLaws.{room-held}
-use Rattle.module.specs.History.{Call, formatting, commanding, polling, lend, run}
-use Rattle.commands.proofs.CommandLaws.{entry-key, serve-is, serve-holds, command-0, command-1, command-2, format-holds, format-refused}
+use Rattle.module.specs.History.{Layout, halves, Call, formatting, commanding, polling, lend, run}
+use Rattle.module.proofs.HistoryLaws.{few}
 use Rattle.promises.specs.Histories.{SameNeeded, begun}
 use Rattle.promises.specs.Requests.{call}
-use Rattle.promises.specs.Calls.{indexFor, sizeFor, SameOutcome}
-use Rattle.promises.proofs.Examples.{start, A, store}
+use Rattle.promises.specs.Calls.{spacesFor, SameOutcome}
+use Rattle.promises.proofs.Examples.{onMemory, start, A, store}
 
 -- ---- memories alike in the needed part, which is as long as the first one's head says
 
 abbrev Alike : Memory → Memory → Type 0
-Alike m n = SameNeeded (namespaceOf m .index) (namespaceOf m .size) m n
+Alike m n = SameNeeded (namespacesOf m) m n
 
-alike-holds : {s : Namespace} {m n : Memory} → Holds s m → Alike m n → Holds s n
+alike-holds : {ss : List Namespace} {m n : Memory} → Holds ss m → Alike m n → Holds ss n
 alike-holds h a =
     let b = holds-back h in
     record { within = h .within; directory = sym (rw b at (a .directory)) ∙ h .directory; values = sym (rw b at (a .values)) ∙ h .values }
 
-alike-word : (at : ℕ) {m n : Memory} → Alike m n → at + 4 ≤ 64 → number (part at 4 (n .directory)) ≡ number (part at 4 (m .directory))
-alike-word at {m} {n} a h =
-    let i = needed (namespaceOf m .index) in
-    ap number (sym (part-take at 4 i (n .directory) (omega arith)) ∙ sym (ap (part at 4) (a .directory)) ∙ part-take at 4 i (m .directory) (omega arith))
+-- what is needed, by the numbers in the two halves
+abbrev totalBy : (Label → ℕ) → List ℕ → ℕ
+totalBy f d = f (labelAt 0 d) + cond (eqb (labelAt 32 d .id) 0) 0 (f (labelAt 32 d) + 0)
 
-alike-turned : {m n : Memory} → Alike m n → Alike n m
-unfolding namespaceOf labelIn
-alike-turned a = record {
-  directory = rw (alike-word 4 a (omega arith)) (sym (a .directory));
-  values = rw (alike-word 8 a (omega arith)) (sym (a .values));
-}
+two-total : (f : Namespace → ℕ) (z : Bool) (s t : Namespace) → total f (s ∷ cond z [] (t ∷ [])) ≡ f s + cond z 0 (f t + 0)
+two-total f true s t = refl
+two-total f false s t = refl
+
+slots-by : (m : Memory) → total slotsOf (namespacesOf m) ≡ totalBy (λ h. slots (h .index)) (m .directory)
+unfolding namespacesOf namespaceAt
+slots-by m =
+    let s = namespaceAt 0 64 0 m in
+    two-total slotsOf (eqb (labelAt 32 (m .directory) .id) 0) s (namespaceAt 32 (64 + 32 * slotsOf s) (s .size) m)
+
+sizes-by : (m : Memory) → total sizeOf (namespacesOf m) ≡ totalBy (λ h. h .size) (m .directory)
+unfolding namespacesOf namespaceAt
+sizes-by m =
+    let s = namespaceAt 0 64 0 m in
+    two-total sizeOf (eqb (labelAt 32 (m .directory) .id) 0) s (namespaceAt 32 (64 + 32 * slotsOf s) (s .size) m)
+
+module _ {m n : Memory} (a : Alike m n) where
+  alike-label : (half : ℕ) → half + 32 ≤ 64 → labelAt half (n .directory) ≡ labelAt half (m .directory)
+  alike-label half h =
+      let i = needed (namespacesOf m) in
+      ap labelIn
+      (sym (part-take half 32 i (n .directory) (omega arith)) ∙ sym (ap (part half 32) (a .directory)) ∙ part-take half 32 i (m .directory) (omega arith))
+
+  alike-total : (f : Label → ℕ) → totalBy f (n .directory) ≡ totalBy f (m .directory)
+  alike-total f = rw (alike-label 0 (omega arith), alike-label 32 (omega arith))
+
+  alike-turned : Alike n m
+  alike-turned =
+      record {
+        directory = rw (slots-by n ∙ alike-total (λ h. slots (h .index)) ∙ sym (slots-by m)) (sym (a .directory));
+        values = rw (sizes-by n ∙ alike-total (λ h. h .size) ∙ sym (sizes-by m)) (sym (a .values));
+      }
 
 alike-legal : {m n : Memory} → Alike m n → legal m ≡ true → legal n ≡ true
 alike-legal {m} a e = holds-legal (alike-holds (legal-holds m e) a)
+
+-- what two memories hold, with other pairs in one namespace, is needed as before
+kept-needed : (i : ℕ) (ps : List Pair) (ss : List Namespace) {x y : Memory} → Holds (with i ps ss) x → Holds (with i ps ss) y → SameNeeded ss x y
+kept-needed i ps ss h g =
+    let d = with-total slotsOf i ps (λ s. refl) ss in
+    let v = with-total sizeOf i ps (λ s. refl) ss in
+    record { directory = rw d at (h .directory ∙ sym (g .directory)); values = rw v at (h .values ∙ sym (g .values)) }
 
 -- ---- a command
 
@@ -66,7 +105,7 @@ illegal-served p k c b m e = rw e
 
 module _ (m n : Memory) (a : Alike m n) (p : Post) (e c b : List ℕ) where
   abbrev Same : Lent → Lent → Type 0
-  Same k l = SameOutcome (namespaceOf m .index) (namespaceOf m .size) (outcome 0 k) (outcome 0 l)
+  Same k l = SameOutcome (namespacesOf m) (outcome 0 k) (outcome 0 l)
 
   abbrev k : Command
   k = readCommand e
@@ -74,20 +113,20 @@ module _ (m n : Memory) (a : Alike m n) (p : Post) (e c b : List ℕ) where
   served : length e ≡ 64 → Same (serve p k (lend c b m)) (serve p k (lend c b n))
   served e64 = go (legal m) refl (legal n) refl
     where
-      s : Namespace
-      s = namespaceOf m
+      ss : List Namespace
+      ss = namespacesOf m
 
-      held : Holds s m → Holds s n → Same (serve p k (lend c b m)) (serve p k (lend c b n))
+      held : Holds ss m → Holds ss n → Same (serve p k (lend c b m)) (serve p k (lend c b n))
       held h g =
-          let f = serve-is p k (lend c b m) s h in
-          let d = serve-is p k (lend c b n) s g in
-          let u = serve-holds p k (lend c b m) s h (entry-key e e64) in
-          let v = serve-holds p k (lend c b n) s g (entry-key e e64) in
+          let f = serve-is p k (lend c b m) ss h in
+          let d = serve-is p k (lend c b n) ss g in
+          let u = serve-holds p k (lend c b m) ss h (entry-key e e64) in
+          let v = serve-holds p k (lend c b n) ss g (entry-key e e64) in
           record {
             number = refl;
             completion = ap (λ (l : Lent). l .completion) f ∙ sym (ap (λ (l : Lent). l .completion) d);
             buffer = ap (λ (l : Lent). l .buffer) f ∙ sym (ap (λ (l : Lent). l .buffer) d);
-            memory = record { directory = u .directory ∙ sym (v .directory); values = u .values ∙ sym (v .values) };
+            memory = kept-needed (k .nsid) _ ss u v;
           }
 
       go : (x : Bool) → legal m ≡ x → (y : Bool) → legal n ≡ y → Same (serve p k (lend c b m)) (serve p k (lend c b n))
@@ -96,11 +135,11 @@ module _ (m n : Memory) (a : Alike m n) (p : Post) (e c b : List ℕ) where
       go false f false g =
           rw (illegal-served p k c b m f, illegal-served p k c b n g) (record { number = refl; completion = refl; buffer = refl; memory = a })
 
-  past-command : SameOutcome (namespaceOf m .index) (namespaceOf m .size) (run m (commanding p e c b)) (run n (commanding p e c b))
+  past-command : SameOutcome (namespacesOf m) (run m (commanding p e c b)) (run n (commanding p e c b))
   past-command = go (eqb (length e) 64) refl (eqb (length c) 16) refl
     where
       go : (x : Bool) → eqb (length e) 64 ≡ x → (y : Bool) → eqb (length c) 16 ≡ y
-          → SameOutcome (namespaceOf m .index) (namespaceOf m .size) (run m (commanding p e c b)) (run n (commanding p e c b))
+          → SameOutcome (namespacesOf m) (run m (commanding p e c b)) (run n (commanding p e c b))
       go false f y g =
           rw (command-1 p e (lend c b m) f, command-1 p e (lend c b n) f) (record { number = refl; completion = refl; buffer = refl; memory = a })
       go true f false g =
@@ -120,49 +159,54 @@ short-same k xs ys e = go (ltb (length xs) k) refl (ltb (length ys) k) refl
     go true f false g = absurd (omega (arith, simp length-take at (ap length e), ltb-true, ltb-false))
     go false f true g = absurd (omega (arith, simp length-take at (ap length e), ltb-true, ltb-false))
 
-module _ (i id k : ℕ) (m n : Memory) (a : SameNeeded i k m n) where
-  same-number : format i id k m .number ≡ format i id k n .number
+module _ (l : Layout) (m n : Memory) (a : SameNeeded (blanks (halves l)) m n) where
+  abbrev hs : List Half
+  hs = halves l
+
+  same-number : format hs m .number ≡ format hs n .number
   unfolding format formatSteps
   same-number =
-      rw (short-same (needed i) (m .directory) (n .directory) (a .directory), short-same k (m .values) (n .values) (a .values))
+      rw (
+        short-same (needed (blanks hs)) (m .directory) (n .directory) (a .directory),
+        short-same (neededValues (blanks hs)) (m .values) (n .values) (a .values),
+      )
 
-  same-formatted : SameNeeded i k (format i id k m .after) (format i id k n .after)
+  same-formatted : SameNeeded (blanks hs) (format hs m .after) (format hs n .after)
   unfolding format
-  same-formatted = go (eqb (format i id k m .number) 0) refl
+  same-formatted = go (eqb (format hs m .number) 0) refl
     where
-      go : (z : Bool) → eqb (format i id k m .number) 0 ≡ z → SameNeeded i k (format i id k m .after) (format i id k n .after)
+      go : (z : Bool) → eqb (format hs m .number) 0 ≡ z → SameNeeded (blanks hs) (format hs m .after) (format hs n .after)
       go true e =
-          let ok = eqb-true (format i id k m .number) 0 e in
-          let h = format-holds i id k m ok in
-          let g = format-holds i id k n (sym same-number ∙ ok) in
+          let ok = eqb-true (format hs m .number) 0 e in
+          let h = format-holds hs m (few l) ok in
+          let g = format-holds hs n (few l) (sym same-number ∙ ok) in
           record { directory = h .directory ∙ sym (g .directory); values = h .values ∙ sym (g .values) }
-      go false e = rw (format-refused i id k m e, format-refused i id k n (rw same-number at e)) a
+      go false e = rw (format-refused hs m e, format-refused hs n (rw same-number at e)) a
 
 -- ---- a poll
 
-pub past-room : (m n : Memory) → SameNeeded (namespaceOf m .index) (namespaceOf m .size) m n → room m ≡ room n
+pub past-room : (i : ℕ) (m n : Memory) → SameNeeded (namespacesOf m) m n → room i m ≡ room i n
 unfolding room
-past-room m n a = go (legal m) refl (legal n) refl
+past-room i m n a = go (legal m) refl (legal n) refl
   where
-    go : (x : Bool) → legal m ≡ x → (y : Bool) → legal n ≡ y → room m ≡ room n
-    go true f y g = let h = legal-holds m f in room-held h ∙ sym (room-held (alike-holds h a))
+    go : (x : Bool) → legal m ≡ x → (y : Bool) → legal n ≡ y → room i m ≡ room i n
+    go true f y g = let h = legal-holds m f in room-held i h ∙ sym (room-held i (alike-holds h a))
     go false f true g = absurd (contrary (sym f ∙ alike-legal (alike-turned a) g))
     go false f false g = rw (f, g)
 
 -- ---- the promise
 
-pub past : (m n : Memory) (x : Call) → SameNeeded (indexFor m x) (sizeFor m x) m n → SameOutcome (indexFor m x) (sizeFor m x) (run m x) (run n x)
-past m n (formatting i id k) a =
-    record { number = same-number i id k m n a; completion = refl; buffer = refl; memory = same-formatted i id k m n a }
+pub past : (m n : Memory) (x : Call) → SameNeeded (spacesFor m x) m n → SameOutcome (spacesFor m x) (run m x) (run n x)
+past m n (formatting l) a = record { number = same-number l m n a; completion = refl; buffer = refl; memory = same-formatted l m n a }
 past m n (commanding p e c b) a = past-command m n a p e c b
-past m n polling a = record { number = ap (λ (r : Room). r .number) (past-room m n a); completion = refl; buffer = refl; memory = a }
+past m n (polling i) a = record { number = ap (λ (r : Room). r .number) (past-room i m n a); completion = refl; buffer = refl; memory = a }
 
 -- ---- an instance: a Store of A on two memories that end in 7 and in 9
 
-alike : (namespaceOf (begun (start 7) .after) .size ≡ 64) × Alike (begun (start 7) .after) (begun (start 9) .after)
-unfolding format formatSteps part put number halfOf labelIn recordOf recordsPart valuesPart directoryOf valuesOf namespaceOf
+alike : (neededValues (namespacesOf (begun (start 7) .after)) ≡ 64) × Alike (begun (start 7) .after) (begun (start 9) .after)
+unfolding onMemory
 alike = (refl, record { directory = refl; values = refl })
 
-same-store : SameOutcome (namespaceOf (begun (start 7) .after) .index) (namespaceOf (begun (start 7) .after) .size)
-    (run (begun (start 7) .after) (call (store A (5 ∷ [])))) (run (begun (start 9) .after) (call (store A (5 ∷ []))))
+same-store : SameOutcome (namespacesOf (begun (start 7) .after)) (run (begun (start 7) .after) (call (store A (5 ∷ []))))
+    (run (begun (start 9) .after) (call (store A (5 ∷ []))))
 same-store = past (begun (start 7) .after) (begun (start 9) .after) (call (store A (5 ∷ []))) (alike .1)

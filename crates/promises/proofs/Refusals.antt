@@ -8,38 +8,35 @@ use native.Mathlib.Omega.{arith}
 use lib.ListN.{length, replicate}
 use lib.Dec.{eqb}
 use borrow.Author.Tests.{eqb-true}
-use Rattle.octets.specs.Octets.{part, put, number}
+use Rattle.octets.specs.Octets.{part, number}
 use Rattle.octets.proofs.TestLaws.{contrary, refuted}
-use Rattle.wire.specs.Entry.{readCommand, writeCommand}
-use Rattle.wire.specs.Completion.{readCompletion, writeCompletion}
-use Rattle.store.specs.Namespace.{within}
-use Rattle.store.specs.Records.{recordOf, recordsPart, valuesPart}
-use Rattle.memory.specs.Memory.{Memory, formatSteps, halfOf, labelIn, directoryOf, valuesOf, namespaceOf, legal}
-use Rattle.commands.specs.Steps.{steps, statusOf}
-use Rattle.commands.specs.Answer.{answer}
-use Rattle.commands.specs.Formatting.{format}
-use Rattle.commands.specs.Command.{Post, Lent, respond, serve, Outcome, command}
-use Rattle.module.specs.History.{Call, formatting, commanding, polling, lend, run}
-use Rattle.commands.proofs.CommandLaws.{command-0, command-1, command-2, serve-refused, format-refused}
+use Rattle.wire.specs.Entry.{readCommand}
+use Rattle.wire.specs.Completion.{readCompletion}
+use Rattle.memory.specs.Memory.{Memory}
+use Rattle.formatting.specs.Formatting.{half, format}
+use Rattle.commands.specs.Command.{Post, Lent, Outcome}
+use Rattle.module.specs.History.{one, halves, Call, formatting, commanding, polling, lend, run}
+use Rattle.commands.proofs.CommandLaws.{command-0, command-1, command-2, serve-refused}
+use Rattle.formatting.proofs.FormatLaws.{format-refused}
 use Rattle.host.specs.Build as Build
 use Rattle.promises.specs.Agreement.{Ask, builds}
 use Rattle.promises.specs.Histories.{begun}
 use Rattle.promises.specs.Requests.{Request, call, sends}
 use Rattle.promises.specs.Calls.{lentTo, status, Spares}
 use Rattle.promises.proofs.AnyMemory.{any-served, any-status}
-use Rattle.promises.proofs.Examples.{start, B, store}
+use Rattle.promises.proofs.Examples.{onMemory, start, B, store}
 
 numbered-left : (m : Memory) (x : Call) → ¬ (run m x .number ≡ 0) → run m x .after ≡ lentTo m x
 unfolding format
-numbered-left m (formatting i id n) h =
-    ap (lend [] []) (format-refused i id n m (refuted (eqb (format i id n m .number) 0) (λ e. h (eqb-true _ 0 e))))
+numbered-left m (formatting l) h =
+    ap (lend [] []) (format-refused (halves l) m (refuted (eqb (format (halves l) m .number) 0) (λ e. h (eqb-true _ 0 e))))
 numbered-left m (commanding p e c b) h = go (eqb (length e) 64) refl (eqb (length c) 16) refl
   where
     go : (x : Bool) → eqb (length e) 64 ≡ x → (y : Bool) → eqb (length c) 16 ≡ y → run m (commanding p e c b) .after ≡ lend c b m
     go false f y g = ap (λ (o : Outcome). o .after) (command-1 p e (lend c b m) f)
     go true f false g = ap (λ (o : Outcome). o .after) (command-2 p e (lend c b m) f g)
     go true f true g = absurd (h (ap (λ (o : Outcome). o .number) (command-0 p e (lend c b m) f g)))
-numbered-left m polling h = refl
+numbered-left m (polling n) h = refl
 
 refused-left : (m : Memory) (p : Post) (e c b : List ℕ) → ¬ (status (run m (commanding p e c b)) ≡ 0)
     → (run m (commanding p e c b) .after .buffer ≡ b) × (run m (commanding p e c b) .after .memory ≡ m)
@@ -62,9 +59,9 @@ refused-left m p e c b h = go (eqb (run m (commanding p e c b) .number) 0) refl
 
 pub refusals : (m : Memory) (x : Call) → Spares (lentTo m x) (run m x)
 unfolding readCompletion part number
-refusals m (formatting i id n) = record { numbered = numbered-left m (formatting i id n); refused = λ h. absurd (h refl) }
+refusals m (formatting l) = record { numbered = numbered-left m (formatting l); refused = λ h. absurd (h refl) }
 refusals m (commanding p e c b) = record { numbered = numbered-left m (commanding p e c b); refused = refused-left m p e c b }
-refusals m polling = record { numbered = numbered-left m polling; refused = λ h. absurd (h refl) }
+refusals m (polling n) = record { numbered = numbered-left m (polling n); refused = λ h. absurd (h refl) }
 
 -- the host's builder leaves the entry that it refuses to build
 pub builder-refusals : (e : List ℕ) (a : Ask) → ¬ (builds e a .number ≡ 0) → builds e a .entry ≡ e
@@ -76,16 +73,15 @@ builder-refusals e a h = rw (refuted (eqb (builds e a .number) 0) (λ f. h (eqb-
 abbrev full : Request
 full = store B (replicate 64 0)
 
-says : (status (sends (begun (start 7) .after) full) ≡ 0x81) × (run (start 7 .lent) (formatting 16 1 64) .number ≡ 3)
-unfolding format formatSteps readCommand writeCommand part put number answer statusOf steps readCompletion writeCompletion
-    within halfOf labelIn recordOf recordsPart valuesPart directoryOf valuesOf namespaceOf legal respond serve command
+says : (status (sends (begun (start 7) .after) full) ≡ 0x81) × (run (start 7 .lent) (formatting (one (half 16 1 64))) .number ≡ 3)
+unfolding onMemory
 says = (refl, refl)
 
 left : (sends (begun (start 7) .after) full .after .buffer ≡ replicate 64 0) × (sends (begun (start 7) .after) full .after .memory ≡ begun (start 7) .after)
 left = refusals (begun (start 7) .after) (call full) .refused (λ e. let z = sym (says .0) ∙ e in omega arith)
 
-unformatted : run (start 7 .lent) (formatting 16 1 64) .after ≡ lend [] [] (start 7 .lent)
-unformatted = refusals (start 7 .lent) (formatting 16 1 64) .numbered (λ e. let z = sym (says .1) ∙ e in omega arith)
+unformatted : run (start 7 .lent) (formatting (one (half 16 1 64))) .after ≡ lend [] [] (start 7 .lent)
+unformatted = refusals (start 7 .lent) (formatting (one (half 16 1 64))) .numbered (λ e. let z = sym (says .1) ∙ e in omega arith)
 
 unbuilt : builds (replicate 64 9) (record { opcode = 0x07; cid = 0; nsid = 1; key = B; dword10 = 0; options = 0 }) .entry ≡ replicate 64 9
 unfolding Build.build

@@ -3,29 +3,45 @@
 use mathlib.Core.Path.{_≡_, sym, ap, _∙_}
 use mathlib.Core.Bool.{true}
 use mathlib.Core.List.{List, _∷_}
-use Prim.Native.Nat.{_^_, _<_}
+use Prim.Native.Nat.{ℕ, _^_, _<_}
 use lib.ListN.{length}
-use borrow.Author.Tests.{eqb-true, not-false}
+use borrow.Author.Tests.{eqb-true, eq-eqb, not-false}
 use Rattle.octets.specs.Tests.{firstOf}
-use Rattle.octets.proofs.TestLaws.{None, none-holds, none-first}
+use Rattle.octets.proofs.TestLaws.{None, none-holds, none-first, known, holds, fails}
+use Rattle.octets.proofs.OrderLaws.{Rising}
 use Rattle.wire.specs.Entry.{notEntry}
 use Rattle.wire.specs.Completion.{notCompletion}
-use Rattle.store.specs.Namespace.{Namespace, fresh}
-use Rattle.commands.specs.Steps.{steps, stepsToH, stepsFromI, statusOf}
+use Rattle.store.specs.Maps.{keys}
+use Rattle.store.specs.Namespace.{Namespace}
+use Rattle.store.proofs.NamespaceLaws.{Within as One}
+use Rattle.memory.specs.Namespaces.{held, at}
+use Rattle.rules.specs.Steps.{steps, stepsToH, stepsFromI, statusOf}
 use Rattle.commands.specs.Answer.{Answer, answer}
 use Rattle.memory.specs.Memory.{Memory}
-use Rattle.commands.proofs.StepLaws.{PassedToH, passed-to-h}
+use Rattle.rules.proofs.StepLaws.{PassedToH, passed-to-h}
 use Rattle.commands.proofs.AnswerLaws.{answer-status}
+use Rattle.memory.proofs.NameLaws.{at-id, at-within, at-none}
 use Rattle.memory.proofs.ImageLaws.{Holds}
-use Rattle.commands.proofs.CommandLaws.{format-holds}
-use Rattle.module.proofs.HistoryLaws.{told-calls, call-number, call-status, call-dword0, call-buffer}
-use Rattle.module.specs.History.{Call}
+use Rattle.formatting.specs.Formatting.{blanks}
+use Rattle.formatting.proofs.FormatLaws.{format-holds}
+use Rattle.module.proofs.HistoryLaws.{few, told-calls, call-number, call-status, call-dword0, call-buffer}
+use Rattle.module.specs.History.{halves, Call}
 use Rattle.promises.specs.Histories.{Start, begun, memoryAfter, storedAfter}
 use Rattle.promises.specs.Requests.{Request, sends, asked, viewAt, stockAt, refusal, Gives}
 
 pub holds-after : (a : Start) (xs : List Call) → begun a .number ≡ 0 → Holds (storedAfter a xs) (memoryAfter a xs)
 holds-after a xs ok =
-    told-calls (fresh (a .index) (a .id) (a .size)) (begun a .after) xs (format-holds (a .index) (a .id) (a .size) (a .lent) ok)
+    told-calls (blanks (halves (a .layout))) (begun a .after) xs (format-holds (halves (a .layout)) (a .lent) (few (a .layout)) ok)
+
+-- ---- the namespace that n names
+
+-- its keys rise, whether it is there or not
+pub at-rising : (n : ℕ) (ss : List Namespace) {m : Memory} → Holds ss m → Rising (keys (at n ss .pairs))
+at-rising n ss h =
+    elim (known (held n ss)) [
+      | holds q ↦ at-within n ss (h .within .each) q .rising
+      | fails q ↦ rw (at-none n ss q) tt
+    ]
 
 -- ---- a request that nothing before step i refuses
 
@@ -47,17 +63,28 @@ module _ (s : Namespace) (x : Request) (e : refusal s x ≡ 0) where
   unfolding statusOf steps
   later-steps = none-first (stepsToH (viewAt s x) (asked x)) (stepsFromI (stockAt s x) (asked x)) (none .1 .1)
 
--- ---- what it is answered on memory that holds s
+-- ---- what it is answered on memory that holds ss, where it names n
 
-module _ (s : Namespace) (m : Memory) (x : Request) (h : Holds s m) (e : refusal s x ≡ 0) where
+module _ (n : ℕ) (ss : List Namespace) (m : Memory) (x : Request) (h : Holds ss m) (i : asked x .nsid ≡ n) (e : refusal (at n ss) x ≡ 0) where
+  abbrev s : Namespace
+  s = at n ss
+
+  -- then there is such a namespace
+  pub named-one : One s
+  named-one =
+      let q : held n ss ≡ true = sym (at-id n ss) ∙ eq-eqb n (s .id) (sym i ∙ early s x e .same) in
+      at-within n ss (h .within .each) q
+
   pub gives : (a : Answer) → answer true s (asked x) (x .buffer) ≡ a → a .dword0 < 256 ^ 4 → Gives (a .status) (a .dword0) (a .buffer) (sends m x)
   gives a is small =
+      let same : at (asked x .nsid) ss ≡ s = ap (λ (j : ℕ). at j ss) i in
+      let given : answer true (at (asked x .nsid) ss) (asked x) (x .buffer) ≡ a = rw same is in
       let e64 = entry-64 s x e in
       let c16 = completion-16 s x e in
-      let st = sym (answer-status true s (asked x) (x .buffer)) ∙ ap (λ (a : Answer). a .status) is in
+      let st = sym (answer-status true (at (asked x .nsid) ss) (asked x) (x .buffer)) ∙ ap (λ (a : Answer). a .status) given in
       record {
-        number = call-number s m (x .post) (x .entry) (x .completion) (x .buffer) h e64 c16;
-        status = call-status s m (x .post) (x .entry) (x .completion) (x .buffer) h e64 c16 ∙ st;
-        dword0 = rw is at (call-dword0 s m (x .post) (x .entry) (x .completion) (x .buffer) h e64 c16) small;
-        buffer = rw is at (call-buffer s m (x .post) (x .entry) (x .completion) (x .buffer) h e64 c16);
+        number = call-number ss m (x .post) (x .entry) (x .completion) (x .buffer) h e64 c16;
+        status = call-status ss m (x .post) (x .entry) (x .completion) (x .buffer) h e64 c16 ∙ st;
+        dword0 = rw given at (call-dword0 ss m (x .post) (x .entry) (x .completion) (x .buffer) h e64 c16) small;
+        buffer = rw given at (call-buffer ss m (x .post) (x .entry) (x .completion) (x .buffer) h e64 c16);
       }

@@ -6,13 +6,10 @@ use native.Mathlib.Omega.{arith}
 use lib.Dec.{leb}
 use lib.ListN.{length, take, drop, length-append, length-drop, take-append-drop}
 use Rattle.store.proofs.NamespaceLaws.{Admitted, Within, format-bounds}
-use Rattle.store.specs.Formats.{formatOf}
-use Rattle.store.specs.Maps.{Pair, keys as keysOf, valueOf}
+use Rattle.store.specs.Maps.{Pair, keys as keysOf}
 use Rattle.store.specs.Namespace.{Namespace}
 use Rattle.octets.specs.Octets.{put}
-use Rattle.octets.specs.declared.keys.Order.{Order}
-use Rattle.octets.specs.declared.keys.Order.the-variants.{Less, Equal, Greater}
-use Rattle.octets.specs.Keys.{Key, from, order}
+use Rattle.octets.specs.Keys.{Key, from}
 use Rattle.octets.proofs.TestLaws.{known, holds, fails}
 use Rattle.octets.proofs.OrderLaws.{Below, Rising, order-self, below-trans, below-greater}
 use Rattle.wire.specs.Page.{entrySize, page, fits, keys, readPage, shown}
@@ -70,24 +67,12 @@ admitted-sized : (i : ℕ) (m : List Pair) → i ≤ 15 → Admitted i m → Siz
 admitted-sized i [] h a = tt
 admitted-sized i (p ∷ m) h a = (a .0, omega (arith, format-bounds i h .0), admitted-sized i m h (a .3))
 
-admitted-value : (i : ℕ) (k : Key) (m : List Pair) → Admitted i m → length (valueOf k m) ≤ formatOf i .valuemax
-admitted-value i k [] a = omega arith
-admitted-value i k (p ∷ m) a = go (order k (p .key)) refl (admitted-value i k m (a .3))
-  where
-    go : (o : Order) → order k (p .key) ≡ o → length (valueOf k m) ≤ formatOf i .valuemax → length (valueOf k (p ∷ m)) ≤ formatOf i .valuemax
-    go Less e r = rw e (omega arith)
-    go Equal e r = rw e (a .2)
-    go Greater e r = rw e r
-
 module _ (s : Namespace) (w : Within s) where
   abbrev ks : List Key
   ks = keysOf (s .pairs)
 
   pub pageable : Pageable ks
   pageable = (w .rising, admitted-sized (s .index) (s .pairs) (w .permits .index) (w .admitted))
-
-  pub value-small : (k : Key) → length (valueOf k (s .pairs)) ≤ 4096
-  value-small k = omega (arith, admitted-value (s .index) k (s .pairs) (w .admitted), format-bounds (s .index) (w .permits .index))
 
   -- what is read of a page put into a data buffer
   pub shown-read : (n : ℕ) (k : Key) (b : List ℕ) → readPage (put 0 (page (shown n k ks)) b) ≡ keys (shown n k ks)

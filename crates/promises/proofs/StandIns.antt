@@ -12,8 +12,9 @@ use Rattle.wire.specs.Entry.{readCommand, writeCommand, isList}
 use Rattle.wire.specs.Page.{pageEntry, page, keys}
 use Rattle.store.specs.Maps.{pair, lookup, keys as keysOf}
 use Rattle.store.specs.Namespace.{Namespace, fresh, withPairs}
-use Rattle.memory.specs.Memory.{Memory, halfOf, directoryOf}
-use Rattle.commands.specs.Steps.{steps, statusOf}
+use Rattle.memory.specs.Namespaces.{at as named}
+use Rattle.memory.specs.Memory.{Memory, halfOf, headOf, directoryOf}
+use Rattle.rules.specs.Steps.{steps, statusOf}
 use Rattle.commands.specs.Command.{Outcome}
 use Rattle.module.specs.History.{Call, succeeded}
 use Rattle.promises.specs.Histories.{Start}
@@ -30,7 +31,7 @@ use Rattle.promises.proofs.Examples.{start, start-begun, request, A, B,
 -- a List that succeeds has the count of the keys that fit
 count-right : (d : Device) → Pages d → (a : Start) (xs : List Call) (r : Request) → opens d a .number ≡ 0 → isList (asked r .opcode) ≡ true
     → succeeded (at d (reached d a xs) (call r)) ≡ true
-    → countOf (at d (reached d a xs) (call r) .after .buffer) ≡ countOf (page (shownTo (reached d a xs .stored) r))
+    → countOf (at d (reached d a xs) (call r) .after .buffer) ≡ countOf (page (shownTo (named (asked r .nsid) (reached d a xs .stored)) r))
 unfolding put page part
 count-right d pages a xs r ok o done = ap countOf (pages a xs r ok o done)
 
@@ -39,13 +40,14 @@ pub invents-rejected : (d : Device) → Pages d → Invents d → ⊥
 invents-rejected d pages i = i .wrong (count-right d pages (i .start) (i .calls) (i .list) (i .formatted) (i .opcode) (i .done))
 
 -- where pages are empty and walks find all, no key is ever stored
-empty-walk : (d : Device) → Walks d → Empties d → (a : Start) (xs : List Call) (x : Request) → opens d a .number ≡ 0
-    → Lists (reached d a xs .stored) [] x → succeeded (at d (reached d a xs) (call x)) ≡ true → keysOf (reached d a xs .stored .pairs) ≡ []
-empty-walk d walks empties a xs x ok l done =
+empty-walk : (d : Device) → Walks d → Empties d → (a : Start) (xs : List Call) (n : ℕ) (x : Request) → opens d a .number ≡ 0
+    → Lists n (named n (reached d a xs .stored)) [] x → succeeded (at d (reached d a xs) (call x)) ≡ true
+    → keysOf (named n (reached d a xs .stored) .pairs) ≡ []
+empty-walk d walks empties a xs n x ok l done =
     let q = reached d a xs in
     let page : pageOn (on d) q x ≡ keys [] = empties _ _ _ _ _ _ (rw (l .proper .opcode)) done in
-    let onward : OnwardOn (on d) (q .stored) true (moved d q (call x)) (pageOn (on d) q x) (keys [] ∷ []) = rw page ended in
-    let f = walks a xs true (keys [] ∷ []) ok (record { first = x; lists = l; onward = onward }) in
+    let onward : OnwardOn (on d) n (named n (q .stored)) true (moved d q (call x)) (pageOn (on d) q x) (keys [] ∷ []) = rw page ended in
+    let f = walks a xs n true (keys [] ∷ []) ok (record { first = x; lists = l; onward = onward }) in
     let none : f .found ≡ [] = cc (f .read) in
     sym (f .ends refl) ∙ none
 
@@ -65,22 +67,22 @@ module _ (d : Device) (formats : Opens d) (obeys : Accepts [] d) where
   unfolding statusOf steps readCommand writeCommand part number
   stored-A n = obeys (start 7) (storeA n) is-open refl refl refl
 
-  holds-A : (n : ℕ) → reached d (start 7) (call (storeA n) ∷ []) .stored ≡ withPairs (fresh 15 1 64) (pair A (n ∷ []) ∷ [])
+  holds-A : (n : ℕ) → reached d (start 7) (call (storeA n) ∷ []) .stored ≡ withPairs (fresh 15 1 64) (pair A (n ∷ []) ∷ []) ∷ []
   unfolding readCommand writeCommand part number
   holds-A n = rw (stored-A n)
 
-  since-A : (n : ℕ) → SinceOn (on d) (opens d (start 7) .number) (opened d (start 7)) (storeA n) [] 0x01 A
+  since-A : (n : ℕ) → SinceOn (on d) (opens d (start 7) .number) (opened d (start 7)) (storeA n) [] 0x01 1 A
   unfolding readCommand writeCommand part number
-  since-A n = record { formatted = is-open; opcode = refl; key = refl; done = stored-A n; spared = refl }
+  since-A n = record { formatted = is-open; nsid = refl; opcode = refl; key = refl; done = stored-A n; spared = refl }
 
-  proper-A : (n : ℕ) → Proper (reached d (start 7) (call (storeA n) ∷ []) .stored) 0x02 A retrieveA
+  proper-A : (n : ℕ) → Proper 1 (named 1 (reached d (start 7) (call (storeA n) ∷ []) .stored)) 0x02 A retrieveA
   unfolding refusal steps readCommand writeCommand part number
-  proper-A n = rw (holds-A n) (record { opcode = refl; key = refl; passes = refl })
+  proper-A n = rw (holds-A n) (record { nsid = refl; opcode = refl; key = refl; passes = refl })
 
   -- so a Retrieve hands the byte over
   retrieves-A : Retrieves d → (n : ℕ) → Gives 0x00 1 (n ∷ []) (at d (reached d (start 7) (call (storeA n) ∷ [])) (call retrieveA))
   unfolding readCommand writeCommand part put number
-  retrieves-A retrieves n = retrieves (start 7) [] (storeA n) [] A retrieveA (since-A n) (proper-A n)
+  retrieves-A retrieves n = retrieves (start 7) [] (storeA n) [] 1 A retrieveA (since-A n) (proper-A n)
 
   -- always 81h: the Store is one that no step refuses
   pub says-81h-rejected : Says 0x81 d → ⊥
@@ -101,13 +103,13 @@ module _ (d : Device) (formats : Opens d) (obeys : Accepts [] d) where
 
   -- the same of a device that goes by the calls before too: its memory is not the image of A with a value
   pub leaves-no-image : Images d → Leaves d → ⊥
-  unfolding directoryOf halfOf
+  unfolding directoryOf headOf halfOf
   leaves-no-image images leaves =
       let m = opened d (start 7) .memory in
       let n = reached d (start 7) (call (storeA 7) ∷ []) .memory in
       let e : n ≡ m = leaves _ _ _ _ _ _ in
       let f = images (start 7) [] is-open .directory in
-      let g = images (start 7) (call (storeA 7) ∷ []) is-open .directory ∙ ap directoryOf (holds-A 7) in
+      let g = rw (holds-A 7) at (images (start 7) (call (storeA 7) ∷ []) is-open .directory) in
       let h = ap (λ (l : List ℕ). getD l 12 0) (sym f ∙ ap (λ (k : Memory). take 576 (k .directory)) (sym e) ∙ g) in
       omega arith
 
@@ -122,12 +124,12 @@ module _ (d : Device) (formats : Opens d) (obeys : Accepts [] d) where
 -- ---- by the page and the walk
 
 module _ (d : Device) (formats : Opens d) (accepts : (xs : List Call) → Accepts xs d) where
-  holds-7 : reached d (start 7) (call (storeA 7) ∷ []) .stored ≡ withPairs (fresh 15 1 64) (pair A (7 ∷ []) ∷ [])
+  holds-7 : reached d (start 7) (call (storeA 7) ∷ []) .stored ≡ withPairs (fresh 15 1 64) (pair A (7 ∷ []) ∷ []) ∷ []
   holds-7 = holds-A d formats (accepts []) 7
 
-  lists-A : Lists (reached d (start 7) (call (storeA 7) ∷ []) .stored) [] (list [])
+  lists-A : Lists 1 (named 1 (reached d (start 7) (call (storeA 7) ∷ []) .stored)) [] (list [])
   unfolding refusal steps readCommand writeCommand part number
-  lists-A = rw holds-7 (record { proper = record { opcode = refl; key = refl; passes = refl }; wide = omega arith })
+  lists-A = rw holds-7 (record { proper = record { nsid = refl; opcode = refl; key = refl; passes = refl }; wide = omega arith })
 
   -- a List before the Store and one after it
   listed-none : succeeded (at d (opened d (start 7)) (call (list []))) ≡ true
@@ -138,7 +140,7 @@ module _ (d : Device) (formats : Opens d) (accepts : (xs : List Call) → Accept
   unfolding statusOf steps readCommand writeCommand part number
   listed-A =
       accepts (call (storeA 7) ∷ []) (start 7) (list []) (formats (start 7) (start-begun 7)) refl refl
-      (ap (λ (s : Namespace). statusOf true s (asked (list [])) (length (list [] .buffer))) holds-7)
+      (ap (λ (ss : List Namespace). statusOf true (named 1 ss) (asked (list [])) (length (list [] .buffer))) holds-7)
 
   -- one count for all pages: these two have 0 keys and 1
   pub counts-rejected : Pages d → (n : ℕ) → Counts n d → ⊥
@@ -147,37 +149,37 @@ module _ (d : Device) (formats : Opens d) (accepts : (xs : List Call) → Accept
       let ok = formats (start 7) (start-begun 7) in
       let none = sym (counts _ _ _ _ _ _ refl listed-none) ∙ count-right d pages (start 7) [] (list []) ok refl listed-none in
       let one = sym (counts _ _ _ _ _ _ refl listed-A) ∙ count-right d pages (start 7) (call (storeA 7) ∷ []) (list []) ok refl listed-A in
-      let more = ap (λ (s : Namespace). countOf (page (shownTo s (list [])))) holds-7 in
+      let more = ap (λ (ss : List Namespace). countOf (page (shownTo (named 1 ss) (list [])))) holds-7 in
       omega (arith, none, one ∙ more)
 
   -- empty pages for ever: A would be stored and no walk would find it
   pub empties-rejected : Walks d → Empties d → ⊥
   empties-rejected walks empties =
-      let none = empty-walk d walks empties (start 7) (call (storeA 7) ∷ []) (list []) (formats (start 7) (start-begun 7)) lists-A listed-A in
-      let e = ap (λ (s : Namespace). length (keysOf (s .pairs))) (sym holds-7) ∙ ap length none in
+      let none = empty-walk d walks empties (start 7) (call (storeA 7) ∷ []) 1 (list []) (formats (start 7) (start-begun 7)) lists-A listed-A in
+      let e = ap (λ (ss : List Namespace). length (keysOf (named 1 ss .pairs))) (sym holds-7) ∙ ap length none in
       omega arith
 
 -- ---- by 87h for a key that is not stored
 
 -- an Exist leaves the empty store, whatever the device says to it
-same-empty : (z : Bool) → withPairs (fresh 15 1 64) (cond z [] []) ≡ fresh 15 1 64
+same-empty : (z : Bool) → cond z (fresh 15 1 64 ∷ []) (fresh 15 1 64 ∷ []) ≡ fresh 15 1 64 ∷ []
 same-empty true = refl
 same-empty false = refl
 
 module _ (d : Device) (formats : Opens d) where
-  still-empty : reached d (start 7) (call (exist A) ∷ []) .stored ≡ fresh 15 1 64
+  still-empty : reached d (start 7) (call (exist A) ∷ []) .stored ≡ fresh 15 1 64 ∷ []
   unfolding readCommand writeCommand part number
   still-empty = same-empty (succeeded (at d (opened d (start 7)) (call (exist A))))
 
-  proper-B : Proper (reached d (start 7) (call (exist A) ∷ []) .stored) 0x14 B (exist B)
+  proper-B : Proper 1 (named 1 (reached d (start 7) (call (exist A) ∷ []) .stored)) 0x14 B (exist B)
   unfolding refusal steps readCommand writeCommand part number
-  proper-B = rw still-empty (record { opcode = refl; key = refl; passes = refl })
+  proper-B = rw still-empty (record { nsid = refl; opcode = refl; key = refl; passes = refl })
 
   -- only 00h after the first command, whatever else is done
   pub posts-rejected : Misses d → Posts d → ⊥
   posts-rejected misses posts =
-      let none = ap (λ (s : Namespace). lookup B (s .pairs)) still-empty in
-      let g = misses (start 7) (call (exist A) ∷ []) 0x14 B (exist B) (formats (start 7) (start-begun 7)) none refl proper-B in
+      let none = ap (λ (ss : List Namespace). lookup B (named 1 ss .pairs)) still-empty in
+      let g = misses (start 7) (call (exist A) ∷ []) 0x14 1 B (exist B) (formats (start 7) (start-begun 7)) none refl proper-B in
       let e = sym (g .status) ∙ posts _ _ _ _ _ _ refl (g .number) in
       omega arith
 

@@ -5,17 +5,22 @@ use mathlib.Core.List.{List}
 use Prim.Native.Nat.{ℕ, _≤_}
 use Rattle.octets.specs.Keys.{Key}
 use Rattle.memory.specs.Memory.{Memory, memory}
-use Rattle.memory.proofs.measures as measures
+use Rattle.memory.proofs.labels as labels
+use Rattle.memory.proofs.permits as permits
 use Rattle.memory.proofs.checks as memoryChecks
-use Rattle.memory.proofs.looks as looks
-use Rattle.memory.proofs.changes as changes
-use Rattle.commands.specs.Formatting.{Formatted, formatted, format}
+use Rattle.maps.proofs.looks as looks
+use Rattle.changes.proofs.pairs as pairs
+use Rattle.rules.proofs.steps as steps
+use Rattle.formatting.specs.declared.measures.Half.{Half}
+use Rattle.formatting.specs.Formatting.{Formatted, formatted, format}
+use Rattle.formatting.proofs.measures as measures
+use Rattle.formatting.proofs.formats as formats
 use Rattle.commands.specs.Command.{Post, Lent, lent, Response, response, Outcome, outcome, command}
-use Rattle.commands.proofs.formatting as formatting
 use Rattle.commands.proofs.commands as commands
 use Rattle.room.proofs.polls as polls
 use Rattle.host.specs.Build.{Built, built, build}
 use Rattle.module.proofs.kv_format as kv_format
+use Rattle.module.proofs.kv_format_two as kv_format_two
 use Rattle.module.proofs.kv_command as kv_command
 use Rattle.module.proofs.kv_used as kv_used
 use Rattle.host.proofs.builder as builder
@@ -41,6 +46,10 @@ slice p q slices = one p q (λ z. tt) slices
 pub kv-format-one : Determines kv_format.Kinds.ps kv_format.Kinds.r kv_format.Reads.Learnt
 kv-format-one κs a x y u v p q = one p q (λ (o : Formatted). o .number) (λ o. (tt, (tt, (tt, (o .after .directory, (o .after .values, tt))))))
 
+pub kv-format-two-one : Determines kv_format_two.Kinds.ps kv_format_two.Kinds.r kv_format_two.Reads.Learnt
+kv-format-two-one κs a x y u v p q =
+    one p q (λ (o : Formatted). o .number) (λ o. (tt, (tt, (tt, (tt, (tt, (tt, (o .after .directory, (o .after .values, tt)))))))))
+
 pub kv-command-one : Determines kv_command.Kinds.ps kv_command.Kinds.r kv_command.Reads.Learnt
 kv-command-one κs a x y u v p q =
     one p q (λ (o : Outcome). o .number)
@@ -58,13 +67,24 @@ kv-read-completion-one κs a x y u v p q = value p q
 pub kv-read-page-one : Determines hostPages.kv_read_page.Kinds.ps hostPages.kv_read_page.Kinds.r hostPages.kv_read_page.Reads.Learnt
 kv-read-page-one κs a x y u v p q = value p q
 
--- ---- memory::measures, checks, looks
+-- ---- memory::labels, permits, checks
 
-pub measure-one : Determines measures.measure.Kinds.ps measures.measure.Kinds.r measures.measure.Reads.Learnt
-measure-one κs a x y u v p q = value p q
+pub read-label-one : Determines labels.read_label.Kinds.ps labels.read_label.Kinds.r labels.read_label.Reads.Learnt
+read-label-one κs a x y u v p q = value p q
+
+pub write-label-one : Determines labels.write_label.Kinds.ps labels.write_label.Kinds.r labels.write_label.Reads.Learnt
+write-label-one κs a x y u v p q = slice p q (λ s. (s, (tt, tt)))
+
+pub write-counts-one : Determines labels.write_counts.Kinds.ps labels.write_counts.Kinds.r labels.write_counts.Reads.Learnt
+write-counts-one κs a x y u v p q = slice p q (λ s. (s, (tt, (tt, (tt, tt)))))
+
+pub permit-one : Determines permits.permit.Kinds.ps permits.permit.Kinds.r permits.permit.Reads.Learnt
+permit-one κs a x y u v p q = value p q
 
 pub check-one : Determines memoryChecks.check.Kinds.ps memoryChecks.check.Kinds.r memoryChecks.check.Reads.Learnt
 check-one κs a x y u v p q = value p q
+
+-- ---- maps::looks
 
 pub look-up-one : Determines looks.look_up.Kinds.ps looks.look_up.Kinds.r looks.look_up.Reads.Learnt
 look-up-one κs a x y u v p q = value p q
@@ -78,21 +98,37 @@ hand-over-one κs a x y u v p q = (p .0 ∙ sym (q .0), ap (λ (b : List ℕ). (
 pub list-keys-one : Determines looks.list_keys.Kinds.ps looks.list_keys.Kinds.r looks.list_keys.Reads.Learnt
 list-keys-one κs a x y u v p q = slice p q (λ s. (tt, (tt, (tt, (s, (tt, tt))))))
 
--- ---- memory::changes: both slices are one record
+-- ---- changes::pairs: both slices are one record
 
-pub write-empty-one : Determines changes.write_empty.Kinds.ps changes.write_empty.Kinds.r changes.write_empty.Reads.Learnt
-write-empty-one κs a x y u v p q = slice p q (λ m. (m .directory, (m .values, (tt, (tt, (tt, (tt, tt)))))))
-
-pub put-one : Determines changes.put.Kinds.ps changes.put.Kinds.r changes.put.Reads.Learnt
+pub put-one : Determines pairs.put.Kinds.ps pairs.put.Kinds.r pairs.put.Reads.Learnt
 put-one κs a x y u v p q = slice p q (λ m. (m .directory, (m .values, (tt, (tt, (tt, tt))))))
 
-pub erase-one : Determines changes.erase.Kinds.ps changes.erase.Kinds.r changes.erase.Reads.Learnt
+pub erase-one : Determines pairs.erase.Kinds.ps pairs.erase.Kinds.r pairs.erase.Reads.Learnt
 erase-one κs a x y u v p q = slice p q (λ m. (m .directory, (m .values, (tt, (tt, tt)))))
 
--- ---- commands
+-- ---- rules::steps
 
-pub format-one : Determines formatting.format.Kinds.ps formatting.format.Kinds.r formatting.format.Reads.Learnt
-format-one κs a x y u v p q = one p q (λ (o : Formatted). o .number) (λ o. (tt, (tt, (tt, (o .after .directory, (o .after .values, tt))))))
+pub decide-early-one : Determines steps.decide_early.Kinds.ps steps.decide_early.Kinds.r steps.decide_early.Reads.Learnt
+decide-early-one κs a x y u v p q = value p q
+
+pub decide-late-one : Determines steps.decide_late.Kinds.ps steps.decide_late.Kinds.r steps.decide_late.Reads.Learnt
+decide-late-one κs a x y u v p q = value p q
+
+-- ---- formatting
+
+pub measure-one : Determines measures.measure.Kinds.ps measures.measure.Kinds.r measures.measure.Reads.Learnt
+measure-one κs a x y u v p q = value p q
+
+pub measure-two-one : Determines measures.measure_two.Kinds.ps measures.measure_two.Kinds.r measures.measure_two.Reads.Learnt
+measure-two-one κs a x y u v p q = value p q
+
+pub format-one : Determines formats.format.Kinds.ps formats.format.Kinds.r formats.format.Reads.Learnt
+format-one κs a x y u v p q = one p q (λ (o : Formatted). o .number) (λ o. (tt, (o .after .directory, (o .after .values, tt))))
+
+pub format-two-one : Determines formats.format_two.Kinds.ps formats.format_two.Kinds.r formats.format_two.Reads.Learnt
+format-two-one κs a x y u v p q = one p q (λ (o : Formatted). o .number) (λ o. (tt, (tt, (o .after .directory, (o .after .values, tt)))))
+
+-- ---- commands
 
 pub step-one : Determines commands.step.Kinds.ps commands.step.Kinds.r commands.step.Reads.Learnt
 step-one κs a x y u v p q = slice p q (λ l. (tt, (l .completion, (l .buffer, (l .memory .directory, (l .memory .values, (tt, (tt, (tt, tt)))))))))
@@ -110,9 +146,9 @@ used-room-one κs a x y u v p q = value p q
 -- ---- the same with the equation written out and taken apart: the exported functions that write slices, so that each thing yielded
 -- has its line
 
-pub format-parts : (i id n : ℕ) (m : Memory) (r r′ : ℕ) (d d′ v v′ : List ℕ)
-    → formatted r (memory d v) ≡ format i id n m → formatted r′ (memory d′ v′) ≡ format i id n m → (r ≡ r′) × (d ≡ d′) × (v ≡ v′)
-format-parts i id n m r r′ d d′ v v′ p q =
+pub format-parts : (hs : List Half) (m : Memory) (r r′ : ℕ) (d d′ v v′ : List ℕ)
+    → formatted r (memory d v) ≡ format hs m → formatted r′ (memory d′ v′) ≡ format hs m → (r ≡ r′) × (d ≡ d′) × (v ≡ v′)
+format-parts hs m r r′ d d′ v v′ p q =
     let e = p ∙ sym q in
     (λ i. e i .number, λ i. e i .after .directory, λ i. e i .after .values)
 
@@ -138,6 +174,12 @@ response-one r n n′ b b′ d d′ v v′ p q =
     let e = p ∙ sym q in
     (λ i. e i .dword0, λ i. e i .buffer, λ i. e i .memory .directory, λ i. e i .memory .values)
 
--- key_len of memory::lists, whose contract repeats a bound that its callers lean on
+-- write_blank of formatting::blanks
+pub blank-one : (m : Memory) (d d′ v v′ : List ℕ) → memory d v ≡ m → memory d′ v′ ≡ m → (d ≡ d′) × (v ≡ v′)
+blank-one m d d′ v v′ p q =
+    let e = p ∙ sym q in
+    (λ i. e i .directory, λ i. e i .values)
+
+-- key_len of maps::lists, whose contract repeats a bound that its callers lean on
 pub key-len-one : (n r r′ : ℕ) → (r ≡ n) × (r ≤ 16) → (r′ ≡ n) × (r′ ≤ 16) → r ≡ r′
 key-len-one n r r′ p q = p .0 ∙ sym (q .0)

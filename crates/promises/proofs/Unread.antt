@@ -9,8 +9,9 @@ use Rattle.octets.proofs.TestLaws.{neither, contrary}
 use Rattle.wire.specs.declared.entries.Command.{Command}
 use Rattle.wire.specs.Entry.{readCommand, writeCommand, isStore, isRetrieve, isList}
 use Rattle.store.specs.Namespace.{Namespace}
-use Rattle.memory.specs.Memory.{namespaceOf, legal}
-use Rattle.commands.specs.Steps.{steps, statusOf}
+use Rattle.memory.specs.Namespaces.{at, with}
+use Rattle.memory.specs.Memory.{namespacesOf, legal}
+use Rattle.rules.specs.Steps.{steps, statusOf}
 use Rattle.commands.specs.Answer.{answer}
 use Rattle.commands.specs.Command.{Post, Lent, respond, serve, command}
 use Rattle.promises.proofs.Examples.{request, A}
@@ -48,8 +49,11 @@ module _ (c d : Command) (a : Same c d) where
   same-served : (p : Post) (l : Lent) → serve p c l ≡ serve p d l
   unfolding serve respond
   same-served p l =
+      let ss = namespacesOf (l .memory) in
       rw (
-        same-answer (legal (l .memory)) (namespaceOf (l .memory)) (l .buffer),
+        ap (λ (n : ℕ). at n ss) (a .nsid),
+        same-answer (legal (l .memory)) (at (d .nsid) ss) (l .buffer),
+        ap (λ (n : ℕ). with n (answer (legal (l .memory)) (at (d .nsid) ss) d (l .buffer) .pairs) ss) (a .nsid),
         a .cid,
       )
 

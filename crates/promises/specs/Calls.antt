@@ -1,22 +1,25 @@
 -- What a call is lent, what a refusal must leave, which part of memory a call goes by, and what it stores. Assumes nothing.
 use mathlib.Core.Path.{_≡_}
 use mathlib.Core.Bool.{Bool, false, _&&_}
-use mathlib.Core.List.{[]}
+use mathlib.Core.List.{List, []}
 use Prim.Native.Nat.{ℕ}
+use lib.Dec.{eqb}
 use Rattle.octets.specs.Octets.{same}
 use Rattle.octets.specs.Keys.{Key}
 use Rattle.wire.specs.Entry.{readCommand, keyOf, isStore}
 use Rattle.wire.specs.Completion.{readCompletion}
-use Rattle.memory.specs.Memory.{Memory, namespaceOf}
+use Rattle.store.specs.Namespace.{Namespace}
+use Rattle.memory.specs.Memory.{Memory, namespacesOf}
+use Rattle.formatting.specs.Formatting.{blanks}
 use Rattle.commands.specs.Command.{Lent, Outcome}
-use Rattle.module.specs.History.{Call, formatting, commanding, polling, lend, succeeded}
+use Rattle.module.specs.History.{halves, Call, formatting, commanding, polling, lend, succeeded}
 use Rattle.promises.specs.Histories.{SameNeeded}
 
 -- all that a call is lent; a formatting and a poll have neither completion nor data buffer
 abbrev pub lentTo : Memory → Call → Lent
-lentTo m (formatting i id n) = lend [] [] m
+lentTo m (formatting l) = lend [] [] m
 lentTo m (commanding p e c b) = lend c b m
-lentTo m polling = lend [] [] m
+lentTo m (polling n) = lend [] [] m
 
 -- the status that the completion says
 abbrev pub status : Outcome → ℕ
@@ -29,27 +32,22 @@ pub record Spares (l : Lent) (o : Outcome) : Type 0 where
 
 -- ---- the needed part
 
--- a formatting goes by its own format and size, a command and a poll by those that stand in memory
-abbrev pub indexFor : Memory → Call → ℕ
-indexFor m (formatting i id n) = i
-indexFor m (commanding p e c b) = namespaceOf m .index
-indexFor m polling = namespaceOf m .index
-
-abbrev pub sizeFor : Memory → Call → ℕ
-sizeFor m (formatting i id n) = n
-sizeFor m (commanding p e c b) = namespaceOf m .size
-sizeFor m polling = namespaceOf m .size
+-- a formatting goes by what it is given, a command and a poll by what stands in memory
+abbrev pub spacesFor : Memory → Call → List Namespace
+spacesFor m (formatting l) = blanks (halves l)
+spacesFor m (commanding p e c b) = namespacesOf m
+spacesFor m (polling n) = namespacesOf m
 
 -- two outcomes that differ at most in bytes past the needed part
-pub record SameOutcome (index size : ℕ) (x y : Outcome) : Type 0 where
+pub record SameOutcome (ss : List Namespace) (x y : Outcome) : Type 0 where
   pub number : x .number ≡ y .number
   pub completion : x .after .completion ≡ y .after .completion
   pub buffer : x .after .buffer ≡ y .after .buffer
-  pub memory : SameNeeded index size (x .after .memory) (y .after .memory)
+  pub memory : SameNeeded ss (x .after .memory) (y .after .memory)
 
--- ---- a call stores k with success
+-- ---- a call stores k with success in the namespace n
 
-abbrev pub stores : Key → Call → Outcome → Bool
-stores k (formatting i id n) o = false
-stores k (commanding p e c b) o = succeeded o && isStore (readCommand e .opcode) && same (keyOf (readCommand e)) k
-stores k polling o = false
+abbrev pub stores : ℕ → Key → Call → Outcome → Bool
+stores n k (formatting l) o = false
+stores n k (commanding p e c b) o = succeeded o && isStore (readCommand e .opcode) && eqb (readCommand e .nsid) n && same (keyOf (readCommand e)) k
+stores n k (polling i) o = false

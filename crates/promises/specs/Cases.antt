@@ -1,5 +1,5 @@
--- The bench cases P1 to P12 of document 01, P10 as changed by request [1], and those of requests [1] and [13]: one table, and one statement
--- about the definitions. Assumes nothing.
+-- The bench cases P1 to P12 of document 01, P10 as changed by request [1], and those of requests [1], [7] and [13]: one table, and one
+-- statement about the definitions. Assumes nothing.
 use mathlib.Core.Path.{_≡_, refl}
 use mathlib.Core.Bool.{true}
 use mathlib.Core.List.{List, [], _∷_, _++_, map}
@@ -9,8 +9,12 @@ use Rattle.octets.specs.Octets.{part, put, number, zeros, filled}
 use Rattle.octets.specs.Keys.{Key}
 use Rattle.wire.specs.Entry.{readCommand, writeCommand}
 use Rattle.wire.specs.Page.{pageEntry, page}
-use Rattle.store.specs.Namespace.{Namespace, fresh, withPairs}
-use Rattle.commands.specs.Steps.{steps, statusOf}
+use Rattle.store.specs.Namespace.{Namespace, fresh}
+use Rattle.memory.specs.Namespaces.{at, with}
+use Rattle.rules.specs.Steps.{steps, statusOf}
+use Rattle.octets.specs.Tests.{firstOf}
+use Rattle.formatting.specs.declared.measures.Half.{Half}
+use Rattle.formatting.specs.Formatting.{half, formatSteps}
 use Rattle.commands.specs.Answer.{Answer, answer}
 
 -- a 64-byte entry and the data buffer lent with it
@@ -29,37 +33,51 @@ pub record Try : Type 0 where
   pub call : Call
   pub want : Seen
 
--- each try begins on the empty store of a formatting with id 1
+-- each try begins on the same namespaces
 pub record Case : Type 0 where
-  pub index : ℕ
-  pub size : ℕ
+  pub begin : List Namespace
   pub tries : List Try
 
-abbrev pub answerTo : Namespace → Call → Answer
-answerTo s x = answer true s (readCommand (x .entry)) (x .buffer)
+abbrev pub answerTo : List Namespace → Call → Answer
+answerTo ss x = let c = readCommand (x .entry) in answer true (at (c .nsid) ss) c (x .buffer)
 
-abbrev pub after : Namespace → List Call → Namespace
-after s [] = s
-after s (x ∷ xs) = after (withPairs s (answerTo s x .pairs)) xs
+abbrev pub after : List Namespace → List Call → List Namespace
+after ss [] = ss
+after ss (x ∷ xs) = after (with (readCommand (x .entry) .nsid) (answerTo ss x .pairs) ss) xs
 
 abbrev pub seen : Answer → Seen
 seen a = record { status = a .status; dword0 = a .dword0; buffer = a .buffer }
 
 abbrev pub got : Case → List Seen
-got c = map (λ (t : Try). seen (answerTo (after (fresh (c .index) 1 (c .size)) (t .before)) (t .call))) (c .tries)
+got c = map (λ (t : Try). seen (answerTo (after (c .begin) (t .before)) (t .call))) (c .tries)
 
 abbrev pub wanted : Case → List Seen
 wanted c = map (λ (t : Try). t .want) (c .tries)
 
 -- ---- the words of the table
 
--- opcode op, options o, key bytes k of which l count, and n in Dword 10
-abbrev pub call : ℕ → ℕ → Key → ℕ → ℕ → List ℕ → Call
-call op o k l n b =
+-- namespace id, opcode op, options o, key bytes k of which l count, and n in Dword 10
+abbrev pub callTo : ℕ → ℕ → ℕ → Key → ℕ → ℕ → List ℕ → Call
+callTo id op o k l n b =
     record {
-      entry = writeCommand (record { opcode = op; fused = 0; cid = 0; nsid = 1; key = filled 16 k; len = l; options = o; amount = n });
+      entry = writeCommand (record { opcode = op; fused = 0; cid = 0; nsid = id; key = filled 16 k; len = l; options = o; amount = n });
       buffer = b;
     }
+
+abbrev pub call : ℕ → ℕ → Key → ℕ → ℕ → List ℕ → Call
+call = callTo 1
+
+abbrev pub storeTo : ℕ → Key → List ℕ → Call
+storeTo id k v = callTo id 0x01 0 k (length k) (length v) v
+
+abbrev pub retrieveTo : ℕ → Key → List ℕ → Call
+retrieveTo id k b = callTo id 0x02 0 k (length k) (length b) b
+
+abbrev pub listTo : ℕ → List ℕ → Call
+listTo id b = callTo id 0x06 0 [] 0 (length b) b
+
+abbrev pub existTo : ℕ → Key → Call
+existTo id k = callTo id 0x14 0 k (length k) 0 []
 
 abbrev pub store : ℕ → Key → List ℕ → Call
 store o k v = call 0x01 o k (length k) (length v) v
@@ -93,8 +111,17 @@ junk n = replicate n 0xff
 abbrev pub gives : List Call → Call → ℕ → ℕ → List ℕ → Try
 gives before x st d b = record { before = before; call = x; want = record { status = st; dword0 = d; buffer = b } }
 
+-- on the empty store of a formatting with id 1
 abbrev pub case : ℕ → ℕ → List Try → Case
-case i n tries = record { index = i; size = n; tries = tries }
+case i n tries = record { begin = fresh i 1 n ∷ []; tries = tries }
+
+-- of one with ids 1 and 2
+abbrev pub cases-of-two : ℕ → ℕ → List Try → Case
+cases-of-two i n tries = record { begin = fresh i 1 n ∷ fresh i 2 n ∷ []; tries = tries }
+
+-- A stored in both, with values that differ
+abbrev pub both : List Call
+both = storeTo 1 A (1 ∷ []) ∷ storeTo 2 A (2 ∷ 3 ∷ []) ∷ []
 
 -- A, AB, B stored
 abbrev pub three : List Call
@@ -155,6 +182,28 @@ table =
     ∷ gives three (call 0x06 0 (zeros 15 ++ A) 0 16 (junk 16)) 0x02 0 (junk 16)
     ∷ []
     )
+    -- [7], the same key in both namespaces
+    ∷ cases-of-two 3 4096 (
+    gives both (retrieveTo 1 A (junk 3)) 0x00 1 (1 ∷ junk 2)
+    ∷ gives both (retrieveTo 2 A (junk 3)) 0x00 2 (2 ∷ 3 ∷ junk 1)
+    ∷ gives (storeTo 1 A [] ∷ []) (existTo 2 A) 0x87 0 []
+    ∷ []
+    )
+    -- [7], a List shows nothing of the other
+    ∷ cases-of-two 3 4096 (
+    gives (storeTo 1 A [] ∷ storeTo 2 B [] ∷ []) (listTo 2 (junk 9)) 0x00 0 (0x01 ∷ 0x00 ∷ 0x00 ∷ 0x00 ∷ 0x01 ∷ 0x00 ∷ 0x42 ∷ 0x00 ∷ junk 1)
+    ∷ gives (storeTo 1 A [] ∷ []) (listTo 2 (junk 4)) 0x00 0 (0x00 ∷ 0x00 ∷ 0x00 ∷ 0x00 ∷ [])
+    ∷ []
+    )
+    -- [7], one full to the last byte, and room in the other
+    ∷ cases-of-two 3 10 (
+    gives (storeTo 1 A (junk 9) ∷ []) (storeTo 2 A (junk 9)) 0x00 0 (junk 9)
+    ∷ gives (storeTo 1 A (junk 9) ∷ []) (storeTo 1 B []) 0x81 0 []
+    ∷ []
+    )
+    -- [7], an id of neither, and 0, of two and of one
+    ∷ cases-of-two 3 4096 (gives both (existTo 3 A) 0x0b 0 [] ∷ gives both (existTo 0 A) 0x0b 0 [] ∷ [])
+    ∷ case 3 4096 (gives [] (existTo 2 A) 0x0b 0 [] ∷ gives [] (existTo 0 A) 0x0b 0 [] ∷ [])
     -- [13], with a key that is too long for the format
     ∷ case 0 4096 (gives [] (call 0x14 0 (replicate 6 0x41) 5 0 []) 0x02 0 [] ∷ [])
     ∷ []
@@ -162,3 +211,40 @@ table =
 pub cases : map got table ≡ map wanted table
 unfolding readCommand writeCommand part put number pageEntry page answer statusOf steps
 cases = refl
+
+-- ---- the numbers of a formatting of two
+
+-- what it is given, the lengths of directory and value slice, and the number that it must give
+pub record Ask : Type 0 where
+  pub first : Half
+  pub second : Half
+  pub directory : ℕ
+  pub values : ℕ
+  pub want : ℕ
+
+abbrev pub ask : Half → Half → ℕ → ℕ → ℕ → Ask
+ask h k d v n = record { first = h; second = k; directory = d; values = v; want = n }
+
+abbrev pub numberOf : Ask → ℕ
+numberOf a = firstOf (formatSteps (a .first ∷ a .second ∷ []) (a .directory) (a .values))
+
+-- formats of 16 keys, which need 64 + 32 * 32 bytes; each row has all faults of the rows below it, but for the last two, which have none
+abbrev pub asks : List Ask
+asks =
+    ask (half 16 0 0) (half 16 0 0) 0 0 3
+    ∷ ask (half 15 0 0) (half 16 0 0) 0 0 4
+    ∷ ask (half 15 9 0) (half 16 0 0) 0 0 5
+    ∷ ask (half 15 9 65536) (half 16 0 0) 0 0 3
+    ∷ ask (half 15 9 65536) (half 15 0xffff_ffff 0) 0 0 4
+    ∷ ask (half 15 9 65536) (half 15 9 0xffff_ffff_ffff_ffff) 0 0 5
+    ∷ ask (half 15 9 65536) (half 15 9 65536) 0 0 19
+    ∷ ask (half 15 9 65536) (half 15 8 65536) 0 0 5
+    ∷ ask (half 15 9 65535) (half 15 8 1) 1087 65536 6
+    ∷ ask (half 15 9 65535) (half 15 8 1) 1088 65535 6
+    ∷ ask (half 15 9 65535) (half 15 8 1) 1088 65536 0
+    ∷ ask (half 15 9 1) (half 15 8 1) 1088 2 0
+    ∷ []
+
+pub numbers : map numberOf asks ≡ map (λ (a : Ask). a .want) asks
+unfolding formatSteps
+numbers = refl

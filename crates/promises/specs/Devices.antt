@@ -1,16 +1,17 @@
 -- Devices of any making, and where a history on one stands after a formatting and calls. Assumes nothing.
 use mathlib.Core.List.{List, [], _∷_}
-use Rattle.store.specs.Namespace.{Namespace, fresh}
+use Rattle.store.specs.Namespace.{Namespace}
 use Rattle.memory.specs.Memory.{Memory}
+use Rattle.formatting.specs.Formatting.{blanks}
 use Rattle.commands.specs.Command.{Outcome}
-use Rattle.module.specs.History.{Call, formatting, run, told}
+use Rattle.module.specs.History.{halves, Call, formatting, run, told}
 use Rattle.promises.specs.Histories.{Start, System}
 
 -- the outcome of a call on lent memory; a device may go by the calls before it too, the latest of them first
 abbrev pub Device : Type 0
 Device = List Call → Memory → Call → Outcome
 
--- the one that the contracts of `kv_format`, `kv_command` and `kv_used` name
+-- the one that the contracts of `kv_format`, `kv_format_two`, `kv_command` and `kv_used` name
 abbrev pub real : Device
 real before m x = run m x
 
@@ -20,7 +21,7 @@ real before m x = run m x
 pub record Point : Type 0 where
   pub before : List Call
   pub memory : Memory
-  pub stored : Namespace
+  pub stored : List Namespace
 
 abbrev pub at : Device → Point → Call → Outcome
 at d q x = d (q .before) (q .memory) x
@@ -39,14 +40,14 @@ on d = record { does = at d; goes = goes d }
 
 -- the formatting, and where it leads
 abbrev pub opens : Device → Start → Outcome
-opens d a = d [] (a .lent) (formatting (a .index) (a .id) (a .size))
+opens d a = d [] (a .lent) (formatting (a .layout))
 
 abbrev pub opened : Device → Start → Point
 opened d a =
     record {
-      before = formatting (a .index) (a .id) (a .size) ∷ [];
+      before = formatting (a .layout) ∷ [];
       memory = opens d a .after .memory;
-      stored = fresh (a .index) (a .id) (a .size);
+      stored = blanks (halves (a .layout));
     }
 
 abbrev pub reached : Device → Start → List Call → Point

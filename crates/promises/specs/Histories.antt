@@ -1,35 +1,39 @@
--- A formatting of any lent bytes and calls after it: what they leave in the two slices and what they leave stored. Assumes nothing.
+-- A formatting of any lent bytes, for one namespace or two, and calls after it: what they leave in the two slices and what they leave stored.
+-- Assumes nothing.
 use mathlib.Core.Path.{_≡_}
 use mathlib.Core.Bool.{Bool, true, false, not, _&&_, _||_}
 use mathlib.Core.List.{List, [], _∷_}
-use Prim.Native.Nat.{ℕ}
+use Prim.Native.Nat.{ℕ, _+_}
 use lib.Dec.{eqb}
 use lib.ListN.{take, drop}
-use Rattle.octets.specs.Octets.{same}
+use Rattle.octets.specs.Octets.{part, number, same}
 use Rattle.octets.specs.Keys.{Key}
 use Rattle.wire.specs.Entry.{readCommand, keyOf, isStore, isDelete}
-use Rattle.memory.specs.Memory.{needed, directoryOf, valuesOf, Memory}
-use Rattle.store.specs.Maps.{lookup}
-use Rattle.store.specs.Namespace.{Namespace, fresh, within}
-use Rattle.commands.specs.Formatting.{Formatted, format}
+use Rattle.store.specs.Maps.{lookup, used}
+use Rattle.store.specs.Namespace.{Namespace}
+use Rattle.memory.specs.Namespaces.{at, allWithin}
+use Rattle.memory.specs.Memory.{needed, neededValues, directoryOf, valuesOf, Memory}
+use Rattle.formatting.specs.Formatting.{blanks, Formatted, format}
 use Rattle.commands.specs.Command.{Outcome}
-use Rattle.module.specs.History.{Call, formatting, commanding, polling, run, leaves, succeeded, stored}
+use Rattle.module.specs.History.{Layout, halves, Call, formatting, commanding, polling, run, leaves, succeeded, stored}
 
 -- lent bytes, and what their formatting is given
 pub record Start : Type 0 where
-  pub index : ℕ
-  pub id : ℕ
-  pub size : ℕ
+  pub layout : Layout
   pub lent : Memory
 
 abbrev pub begun : Start → Formatted
-begun a = format (a .index) (a .id) (a .size) (a .lent)
+begun a = format (halves (a .layout)) (a .lent)
 
 abbrev pub memoryAfter : Start → List Call → Memory
 memoryAfter a xs = leaves (begun a .after) xs
 
-abbrev pub storedAfter : Start → List Call → Namespace
-storedAfter a xs = stored (fresh (a .index) (a .id) (a .size)) (begun a .after) xs
+abbrev pub storedAfter : Start → List Call → List Namespace
+storedAfter a xs = stored (blanks (halves (a .layout))) (begun a .after) xs
+
+-- and what of it is in the namespace that n names
+abbrev pub storedIn : ℕ → Start → List Call → Namespace
+storedIn n a xs = at n (storedAfter a xs)
 
 -- a state that calls change: what a call gives there, and where calls lead
 pub record System (Q : Type 0) : Type 0 where
@@ -42,21 +46,26 @@ own = record { does = run; goes = leaves }
 
 -- ---- what memory shows
 
--- s is within its limits, and the needed part of the memory is its image
-pub record Shows (s : Namespace) (m : Memory) : Type 0 where
-  pub within : within s ≡ true
-  pub directory : take (needed (s .index)) (m .directory) ≡ directoryOf s
-  pub values : take (s .size) (m .values) ≡ valuesOf s
+-- ss are within the limits, and the needed part of the memory is their image
+pub record Shows (ss : List Namespace) (m : Memory) : Type 0 where
+  pub within : allWithin ss ≡ true
+  pub directory : take (needed ss) (m .directory) ≡ directoryOf ss
+  pub values : take (neededValues ss) (m .values) ≡ valuesOf ss
+
+-- bytes 16 to 19 of each half, from the one at `half` on, say the used room of each
+abbrev pub Sums : ℕ → List Namespace → List ℕ → Type 0
+Sums half [] d = Unit {0}
+Sums half (s ∷ ss) d = (number (part (half + 16) 4 d) ≡ used (s .pairs)) × Sums (half + 32) ss d
 
 -- the bytes past the needed part of a formatting
-pub record SamePast (index size : ℕ) (m n : Memory) : Type 0 where
-  pub directory : drop (needed index) (m .directory) ≡ drop (needed index) (n .directory)
-  pub values : drop size (m .values) ≡ drop size (n .values)
+pub record SamePast (ss : List Namespace) (m n : Memory) : Type 0 where
+  pub directory : drop (needed ss) (m .directory) ≡ drop (needed ss) (n .directory)
+  pub values : drop (neededValues ss) (m .values) ≡ drop (neededValues ss) (n .values)
 
 -- the needed part itself
-pub record SameNeeded (index size : ℕ) (m n : Memory) : Type 0 where
-  pub directory : take (needed index) (m .directory) ≡ take (needed index) (n .directory)
-  pub values : take size (m .values) ≡ take size (n .values)
+pub record SameNeeded (ss : List Namespace) (m n : Memory) : Type 0 where
+  pub directory : take (needed ss) (m .directory) ≡ take (needed ss) (n .directory)
+  pub values : take (neededValues ss) (m .values) ≡ take (neededValues ss) (n .values)
 
 -- one formatting, and the same under each key
 pub record SamePairs (s t : Namespace) : Type 0 where
@@ -64,6 +73,13 @@ pub record SamePairs (s t : Namespace) : Type 0 where
   pub id : s .id ≡ t .id
   pub size : s .size ≡ t .size
   pub pairs : (k : Key) → lookup k (s .pairs) ≡ lookup k (t .pairs)
+
+-- of each namespace
+abbrev pub AllPairs : List Namespace → List Namespace → Type 0
+AllPairs [] [] = Unit {0}
+AllPairs [] (t ∷ ts) = ⊥
+AllPairs (s ∷ ss) [] = ⊥
+AllPairs (s ∷ ss) (t ∷ ts) = SamePairs s t × AllPairs ss ts
 
 -- ---- what calls do not do
 
@@ -77,22 +93,22 @@ never = neverOn own
 
 -- it formats with success
 abbrev pub formats : Call → Outcome → Bool
-formats (formatting i id n) o = eqb (o .number) 0
+formats (formatting l) o = eqb (o .number) 0
 formats (commanding p e c b) o = false
-formats polling o = false
+formats (polling n) o = false
 
 -- Store and Delete change what is stored; Retrieve, List and Exist only answer
 abbrev pub writes : ℕ → Bool
 writes op = isStore op || isDelete op
 
--- it formats, stores or deletes with success
-abbrev pub changes : Call → Outcome → Bool
-changes (formatting i id n) o = eqb (o .number) 0
-changes (commanding p e c b) o = succeeded o && writes (readCommand e .opcode)
-changes polling o = false
+-- it formats with success, or stores or deletes with success in the namespace n
+abbrev pub changes : ℕ → Call → Outcome → Bool
+changes n (formatting l) o = eqb (o .number) 0
+changes n (commanding p e c b) o = succeeded o && writes (readCommand e .opcode) && eqb (readCommand e .nsid) n
+changes n (polling i) o = false
 
--- it formats with success, or changes what is held under k
-abbrev pub touches : Key → Call → Outcome → Bool
-touches k (formatting i id n) o = eqb (o .number) 0
-touches k (commanding p e c b) o = changes (commanding p e c b) o && same (keyOf (readCommand e)) k
-touches k polling o = false
+-- it formats with success, or changes what n holds under k
+abbrev pub touches : ℕ → Key → Call → Outcome → Bool
+touches n k (formatting l) o = eqb (o .number) 0
+touches n k (commanding p e c b) o = changes n (commanding p e c b) o && same (keyOf (readCommand e)) k
+touches n k (polling i) o = false

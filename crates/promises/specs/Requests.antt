@@ -11,9 +11,9 @@ use Rattle.wire.specs.declared.entries.Command.{Command}
 use Rattle.wire.specs.Entry.{readCommand, keyOf, isStore, notEntry}
 use Rattle.wire.specs.Completion.{readCompletion, notCompletion}
 use Rattle.store.specs.Namespace.{Namespace}
-use Rattle.commands.specs.declared.steps.View.{View}
-use Rattle.commands.specs.declared.steps.Stock.{Stock}
-use Rattle.commands.specs.Steps.{viewOf, stockOf, stepsToH, stepI}
+use Rattle.rules.specs.declared.steps.View.{View}
+use Rattle.rules.specs.declared.steps.Stock.{Stock}
+use Rattle.rules.specs.Steps.{viewOf, stockOf, stepsToH, stepI}
 use Rattle.commands.specs.Answer.{Answer}
 use Rattle.memory.specs.Memory.{Memory}
 use Rattle.commands.specs.Command.{Post, Outcome}
@@ -49,15 +49,16 @@ stockAt s x = stockOf s (keyOf (asked x))
 unfoldable pub refusal : Namespace → Request → ℕ
 refusal s x = firstOf (notEntry (x .entry) ∷ notCompletion (x .completion) ∷ stepsToH (viewAt s x) (asked x))
 
--- opcode op and key k, and nothing before step i refuses it where s is stored
-pub record Proper (s : Namespace) (op : ℕ) (k : Key) (x : Request) : Type 0 where
+-- it names n, with opcode op and key k, and nothing before step i refuses it where n holds s
+pub record Proper (n : ℕ) (s : Namespace) (op : ℕ) (k : Key) (x : Request) : Type 0 where
+  pub nsid : asked x .nsid ≡ n
   pub opcode : asked x .opcode ≡ op
   pub key : keyOf (asked x) ≡ k
   pub passes : refusal s x ≡ 0
 
 -- and step i lets it pass as well
-pub record PassesI (s : Namespace) (op : ℕ) (k : Key) (x : Request) : Type 0 where
-  pub proper : Proper s op k x
+pub record PassesI (n : ℕ) (s : Namespace) (op : ℕ) (k : Key) (x : Request) : Type 0 where
+  pub proper : Proper n s op k x
   pub keyed : firstOf (stepI (stockAt s x) (asked x)) ≡ 0
 
 -- number 0, and with it status, Dword 0 and the data buffer afterwards

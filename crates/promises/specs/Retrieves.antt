@@ -14,15 +14,16 @@ use Rattle.promises.specs.Requests.{Request, call, asked}
 abbrev pub valueIn : Request → List ℕ
 valueIn x = take (asked x .amount) (x .buffer)
 
--- a formatting with number n led to q; there x, of opcode op and key k, succeeds, and none of the calls ys after it formats, stores k or
--- deletes k with success
-pub record SinceOn {Q : Type 0} (w : System Q) (n : ℕ) (q : Q) (x : Request) (ys : List Call) (op : ℕ) (k : Key) : Type 0 where
-  pub formatted : n ≡ 0
+-- a formatting with number r led to q; there x, of opcode op, namespace n and key k, succeeds, and none of the calls ys after it formats, or
+-- stores or deletes k of n, with success
+pub record SinceOn {Q : Type 0} (w : System Q) (r : ℕ) (q : Q) (x : Request) (ys : List Call) (op n : ℕ) (k : Key) : Type 0 where
+  pub formatted : r ≡ 0
+  pub nsid : asked x .nsid ≡ n
   pub opcode : asked x .opcode ≡ op
   pub key : keyOf (asked x) ≡ k
   pub done : succeeded (w .does q (call x)) ≡ true
-  pub spared : neverOn w (touches k) (w .goes q (call x ∷ [])) ys ≡ true
+  pub spared : neverOn w (touches n k) (w .goes q (call x ∷ [])) ys ≡ true
 
 -- of the module, after the calls xs
-abbrev pub Since : Start → List Call → Request → List Call → ℕ → Key → Type 0
+abbrev pub Since : Start → List Call → Request → List Call → ℕ → ℕ → Key → Type 0
 Since a xs = SinceOn own (begun a .number) (memoryAfter a xs)

@@ -8,6 +8,7 @@ use lib.Dec.{eqb}
 use Rattle.octets.specs.Octets.{part, put, number, bytes}
 use Rattle.wire.specs.Entry.{readCommand, isList}
 use Rattle.wire.specs.Page.{page, keys, readPage}
+use Rattle.memory.specs.Namespaces.{at as named}
 use Rattle.memory.specs.Memory.{Memory}
 use Rattle.commands.specs.Command.{Post, completionOf, outcome}
 use Rattle.module.specs.History.{Call, formatting, commanding, polling, lend, run, succeeded}
@@ -35,9 +36,9 @@ Forgets d = (before earlier : List Call) (m : Memory) (x : Call) → d before m 
 -- a command is among the calls
 abbrev pub commanded : List Call → Bool
 commanded [] = false
-commanded (formatting i id n ∷ xs) = commanded xs
+commanded (formatting l ∷ xs) = commanded xs
 commanded (commanding p e c b ∷ xs) = true
-commanded (polling ∷ xs) = commanded xs
+commanded (polling n ∷ xs) = commanded xs
 
 -- after the first command each has status 00h and its data buffer back; what formattings do is free, and so are numbers 1 and 2
 abbrev pub Idles : Device → Type 0
@@ -66,7 +67,8 @@ pub record Invents (d : Device) : Type 0 where
   pub formatted : opens d start .number ≡ 0
   pub opcode : isList (asked list .opcode) ≡ true
   pub done : succeeded (at d (reached d start calls) (call list)) ≡ true
-  pub wrong : ¬ (countOf (at d (reached d start calls) (call list) .after .buffer) ≡ countOf (page (shownTo (reached d start calls .stored) list)))
+  pub wrong : (let s = named (asked list .nsid) (reached d start calls .stored) in
+      ¬ (countOf (at d (reached d start calls) (call list) .after .buffer) ≡ countOf (page (shownTo s list))))
 
 -- each List that succeeds has a page with no key
 abbrev pub Empties : Device → Type 0
@@ -77,24 +79,24 @@ Empties d = (before : List Call) (m : Memory) (p : Post) (e c b : List ℕ) → 
 
 -- but for the completion
 abbrev pub saying : ℕ → Device
-saying st before m (formatting i id n) = run m (formatting i id n)
-saying st before m polling = run m polling
+saying st before m (formatting l) = run m (formatting l)
+saying st before m (polling n) = run m (polling n)
 saying st before m (commanding p e c b) =
     let o = run m (commanding p e c b) in
     outcome (o .number) (lend (completionOf p (readCommand e) st 0) (o .after .buffer) (o .after .memory))
 
 -- but for the memory after a command
 abbrev pub staying : Device
-staying before m (formatting i id n) = run m (formatting i id n)
-staying before m polling = run m polling
+staying before m (formatting l) = run m (formatting l)
+staying before m (polling n) = run m (polling n)
 staying before m (commanding p e c b) =
     let o = run m (commanding p e c b) in
     outcome (o .number) (lend (o .after .completion) (o .after .buffer) m)
 
 -- until a command was among the calls
 abbrev pub resting : Device
-resting before m (formatting i id n) = run m (formatting i id n)
-resting before m polling = run m polling
+resting before m (formatting l) = run m (formatting l)
+resting before m (polling n) = run m (polling n)
 resting before m (commanding p e c b) =
     let o = run m (commanding p e c b) in
     cond (commanded before && eqb (o .number) 0) (outcome 0 (lend (completionOf p (readCommand e) 0 0) b m)) o

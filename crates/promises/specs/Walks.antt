@@ -1,9 +1,9 @@
--- A host's walk over the keys: it Lists from the empty key, then each time from the last key it was shown, until a page brings no new
+-- A host's walk over the keys of a namespace: it Lists from the empty key, then each time from the last key it was shown, until a page brings no new
 -- key. Assumes nothing.
 use mathlib.Core.Path.{_≡_}
 use mathlib.Core.Bool.{Bool, true, false, cond}
 use mathlib.Core.List.{List, [], _∷_, _++_}
-use Prim.Native.Nat.{_+_, _≤_}
+use Prim.Native.Nat.{ℕ, _+_, _≤_}
 use lib.ListN.{length}
 use Rattle.octets.specs.Octets.{same}
 use Rattle.octets.specs.Keys.{Key}
@@ -42,31 +42,31 @@ joined (refused n ∷ pages) = refused n
 joined (keys ks ∷ pages) = behind ks (joined pages)
 
 -- a List from k; 44 bytes hold the count and two entries of the longest keys, so a later page has room for a new key
-pub record Lists (s : Namespace) (k : Key) (x : Request) : Type 0 where
-  pub proper : Proper s 0x06 k x
+pub record Lists (n : ℕ) (s : Namespace) (k : Key) (x : Request) : Type 0 where
+  pub proper : Proper n s 0x06 k x
   pub wide : 44 ≤ asked x .amount
 
--- The new keys page by page, from the state m on, where the page just read brought r; other calls may stand between two Lists.
--- true: that page brought no new key; false: the host has not gone on yet.
-pub data OnwardOn {Q : Type 0} (w : System Q) (s : Namespace) : Bool → Q → Reading → List Reading → Type 0 where
-  ended : {m : Q} → OnwardOn w s true m (keys []) (keys [] ∷ [])
-  paused : {m : Q} {r : Reading} → OnwardOn w s false m r (r ∷ [])
+-- The new keys page by page, from the state m on, where the page just read brought r; other calls may stand between two Lists, and change
+-- other namespaces than n. true: that page brought no new key; false: the host has not gone on yet.
+pub data OnwardOn {Q : Type 0} (w : System Q) (n : ℕ) (s : Namespace) : Bool → Q → Reading → List Reading → Type 0 where
+  ended : {m : Q} → OnwardOn w n s true m (keys []) (keys [] ∷ [])
+  paused : {m : Q} {r : Reading} → OnwardOn w n s false m r (r ∷ [])
   next : {f : Bool} {m : Q} {k : Key} {ks : List Key} {pages : List Reading} (xs : List Call) (x : Request)
-      → neverOn w changes m xs ≡ true → Lists s (lastOf k ks) x
-      → OnwardOn w s f (w .goes (w .goes m xs) (call x ∷ [])) (newOn (lastOf k ks) (pageOn w (w .goes m xs) x)) pages
-      → OnwardOn w s f m (keys (k ∷ ks)) (keys (k ∷ ks) ∷ pages)
+      → neverOn w (changes n) m xs ≡ true → Lists n s (lastOf k ks) x
+      → OnwardOn w n s f (w .goes (w .goes m xs) (call x ∷ [])) (newOn (lastOf k ks) (pageOn w (w .goes m xs) x)) pages
+      → OnwardOn w n s f m (keys (k ∷ ks)) (keys (k ∷ ks) ∷ pages)
 
--- in the state m, where s is stored
-pub record WalkOn {Q : Type 0} (w : System Q) (s : Namespace) (m : Q) (f : Bool) (pages : List Reading) : Type 0 where
+-- in the state m, where n holds s
+pub record WalkOn {Q : Type 0} (w : System Q) (n : ℕ) (s : Namespace) (m : Q) (f : Bool) (pages : List Reading) : Type 0 where
   pub first : Request
-  pub lists : Lists s [] first
-  pub onward : OnwardOn w s f (w .goes m (call first ∷ [])) (pageOn w m first) pages
+  pub lists : Lists n s [] first
+  pub onward : OnwardOn w n s f (w .goes m (call first ∷ [])) (pageOn w m first) pages
 
 -- of the module
-abbrev pub Onward : Namespace → Bool → Memory → Reading → List Reading → Type 0
+abbrev pub Onward : ℕ → Namespace → Bool → Memory → Reading → List Reading → Type 0
 Onward = OnwardOn own
 
-abbrev pub Walk : Namespace → Memory → Bool → List Reading → Type 0
+abbrev pub Walk : ℕ → Namespace → Memory → Bool → List Reading → Type 0
 Walk = WalkOn own
 
 -- the keys found are a beginning of ks, and ks themselves at the end; no walk takes more Lists than one more than there are keys

@@ -2,7 +2,7 @@
 use memory::checks::check;
 ghost use mathlib.Core.Path.{_≡_};
 ghost use Rattle.memory.specs.Memory.{memory};
-ghost use Rattle.room.specs.Room.{room};
+ghost use Rattle.room.specs.Room.{noRoom, room};
 
 // Beside a number other than 0 the rest is 0.
 #[repr(C)]
@@ -12,17 +12,26 @@ pub struct Room {
     pub keys: u32,
 }
 
-// Number 18.
-pub fn used_room(directory: &[u8], values: &[u8]) -> Room
-    ensures { λ r. ⌜ r ≡ room (memory (now (directory .entry)) (now (values .entry))) ⌝ }
+fn refused(number: u32) -> Room
+    ensures { λ r. ⌜ r ≡ noRoom number ⌝ }
 {
-    let k = check(directory, values);
+    Room {
+        number,
+        used: 0,
+        keys: 0,
+    }
+}
+
+// Numbers 18 and 23. Where no namespace has the id, the check gives the first one's numbers.
+pub fn used_room(id: u32, directory: &[u8], values: &[u8]) -> Room
+    ensures { λ r. ⌜ r ≡ room id (memory (now (directory .entry)) (now (values .entry))) ⌝ }
+{
+    let k = check(directory, values, id);
     if !k.ok {
-        return Room {
-            number: 18,
-            used: 0,
-            keys: 0,
-        };
+        return refused(18);
+    }
+    if k.label.id != id {
+        return refused(23);
     }
     Room {
         number: 0,

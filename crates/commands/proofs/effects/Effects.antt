@@ -1,5 +1,5 @@
 -- What a ruled command may ask of the memory, and that what it does is what is defined. Assumes nothing.
-use mathlib.Core.Path.{_≡_, sym, _∙_}
+use mathlib.Core.Path.{_≡_, sym, ap, _∙_}
 use mathlib.Core.Bool.{true, false}
 use mathlib.Core.List.{List}
 use Prim.Native.Nat.{ℕ, _≤_}
@@ -11,49 +11,60 @@ use Rattle.wire.specs.Entry.{keyOf}
 use Rattle.wire.specs.Page.{page, shown}
 use Rattle.store.specs.declared.finds.Found.{Found}
 use Rattle.store.specs.Maps.{Pair, valueOf, insert, erase}
-use Rattle.store.specs.Namespace.{Namespace, withPairs}
+use Rattle.store.specs.Namespace.{Namespace}
 use Rattle.store.specs.Finds.{foundKey}
 use Rattle.store.proofs.NamespaceLaws.{true-within}
 use Rattle.store.proofs.RankLaws.{has-present}
 use Rattle.memory.specs.declared.checks.Checked.{Checked}
-use Rattle.memory.specs.Memory.{Memory, memory, imageOver, imageWith, namespaceOf, pairsOf}
-use Rattle.memory.specs.Checks.{keysAt, CanPut, CanErase, CanHand, CanList}
-use Rattle.memory.proofs.ImageLaws.{holds-over}
-use Rattle.memory.proofs.LegalLaws.{holds-in, keys-are}
-use Rattle.commands.specs.Steps.{viewOf, stockOf}
+use Rattle.memory.specs.Namespaces.{at, with}
+use Rattle.memory.specs.Memory.{Memory, memory, imageOver, imageWith, namespacesOf, pairsAt}
+use Rattle.memory.proofs.NameLaws.{with-same}
+use Rattle.memory.proofs.ImageLaws.{holds-over, legal-holds}
+use Rattle.maps.specs.Asks.{keysAt, CanPut, CanErase, CanHand, CanList}
+use Rattle.maps.proofs.LegalLaws.{at-one, keys-are}
+use Rattle.rules.specs.Steps.{viewOf, stockOf}
+use Rattle.rules.proofs.StepLaws.{Passed}
 use Rattle.commands.specs.Answer.{answer, dwordAfter, bufferAfter, pairsAfter}
 use Rattle.commands.specs.Command.{Response, response, respond}
 use Rattle.commands.specs.Ruled.{Ruled}
-use Rattle.commands.proofs.StepLaws.{Passed}
 use Rattle.commands.proofs.AnswerLaws.{unrefused, store-within}
 
 module _ {c : Command} {k : Checked} {f : Found} (b : List ℕ) {d v : List ℕ} (r : Ruled c k f (length b) d v) where
   abbrev s : Namespace
-  s = namespaceOf (memory d v)
+  s = at (k .label .id) (namespacesOf (memory d v))
 
   abbrev m : List Pair
-  m = pairsOf (memory d v)
+  m = pairsAt (k .label .id) (memory d v)
 
   p : Passed (viewOf true s (length b)) (stockOf s (keyOf c)) c
   p = unrefused true s c (length b) (r .status)
 
   -- the memory that is to be left, and what is defined of a command that no step refuses
   abbrev after : Memory
-  after = imageOver (withPairs s (pairsAfter c b m)) (memory d v)
+  after = imageOver (with (k .label .id) (pairsAfter c b m) (namespacesOf (memory d v))) (memory d v)
 
   abbrev meant : Response
   meant = respond c b (memory d v)
 
   done : meant ≡ record { status = 0; dword0 = dwordAfter c m; buffer = bufferAfter c b m; memory = after }
   unfolding respond answer
-  done = rw (r .legal .legal, r .status)
+  done =
+      let ss = namespacesOf (memory d v) in
+      rw (
+        r .legal .legal,
+        ap (λ (n : ℕ). at n ss) (r .named),
+        r .status,
+        ap (λ (n : ℕ). with n (pairsAfter c b m) ss) (r .named),
+      )
 
   made : {n : ℕ} {b′ d′ v′ : List ℕ} → n ≡ dwordAfter c m → b′ ≡ bufferAfter c b m → memory d′ v′ ≡ after → response 0 n b′ d′ v′ ≡ meant
   made x y z = (λ i. record { status = 0; dword0 = x i; buffer = y i; memory = z i }) ∙ sym done
 
   -- a command that keeps the map keeps the memory
   kept : pairsAfter c b m ≡ m → memory d v ≡ after
-  kept e = sym (rw e (holds-over (holds-in (r .legal))))
+  kept e =
+      let h = holds-over (legal-holds (memory d v) (r .legal .legal)) in
+      sym (rw (e, with-same (k .label .id) (namespacesOf (memory d v))) h)
 
   -- ---- Store
 
@@ -66,10 +77,11 @@ module _ {c : Command} {k : Checked} {f : Found} (b : List ℕ) {d v : List ℕ}
         record {
           legal = r .legal;
           looked = r .looked;
-          within = rw (r .key) (true-within _ (store-within s c b (holds-in (r .legal) .within) (r .given) (rw op) p));
+          within = rw (r .key) (true-within _ (store-within s c b (at-one (r .legal)) (r .given) (rw op) p));
         }
 
-    pub stored-is : {d′ v′ : List ℕ} → memory d′ v′ ≡ imageWith (insert (foundKey f) (take (c .amount) b)) (memory d v) → response 0 0 b d′ v′ ≡ meant
+    pub stored-is : {d′ v′ : List ℕ} → memory d′ v′ ≡ imageWith (k .label .id) (insert (foundKey f) (take (c .amount) b)) (memory d v)
+        → response 0 0 b d′ v′ ≡ meant
     stored-is e = made (rw op) (rw op) (rw op (rw (r .key) at e))
 
   -- ---- a key that is held: Retrieve, Delete
@@ -80,7 +92,7 @@ module _ {c : Command} {k : Checked} {f : Found} (b : List ℕ) {d v : List ℕ}
   pub can-erase : c .opcode ≡ 0x10 → CanErase k f d v
   can-erase op = can-find (p .held (rw op))
 
-  pub erased-is : {d′ v′ : List ℕ} → c .opcode ≡ 0x10 → memory d′ v′ ≡ imageWith (erase (foundKey f)) (memory d v) → response 0 0 b d′ v′ ≡ meant
+  pub erased-is : {d′ v′ : List ℕ} → c .opcode ≡ 0x10 → memory d′ v′ ≡ imageWith (k .label .id) (erase (foundKey f)) (memory d v) → response 0 0 b d′ v′ ≡ meant
   erased-is op e = made (rw op) (rw op) (rw op (rw (r .key) at e))
 
   pub can-hand : c .opcode ≡ 0x02 → CanHand k f (c .amount) d v b

@@ -1,73 +1,87 @@
-use mathlib.Core.Path.{sym}
-use native.Mathlib.Omega.{arith}
-use lib.ListN.{length}
-use lib.Seq.{length-take-le}
 use borrow.Author.Needs.{needs}
-use Rattle.octets.specs.Octets.{part}
-use Rattle.memory.proofs.FormatLaws.{Measures, measures}
-use Rattle.memory.proofs.checks.Answers.{check-short, check-number, check-zeros, check-asks, check-sums, check-passed}
+use Rattle.octets.proofs.NumberLaws.{Bytes}
+use Rattle.memory.proofs.checks.Both.{check-short, check-first, first-behind, check-rest, check-one, check-clash, check-named, check-other}
 use Rattle.memory.proofs.checks.check.Statement.{statement}
 use Rattle.memory.proofs.checks.check.Tie as tie
 
+abbrev halved : tie.Else2 → tie.After-check-half
+halved c = c .before .before
+
+-- each byte of a slice is one
+octets : (c : tie.Else1) → Bytes (c .before .before .before .args .directory .now)
+octets c i l = c .before .before .shared-slice-known .given i .fits
+
 returns : tie.Need-returns
-returns c = check-short _ _ (c .if1 .taken)
+returns c = check-short _ _ _ (c .if1 .taken)
 
 returns-2 : tie.Need-returns-2
-returns-2 c =
-    let m = c .before .before in
-    check-number _ _ (m .before .before .read-label .ensures) (m .measure .ensures) (c .if2 .taken)
-
--- where numbers 3 to 6 let the head pass
-passed : (c : tie.Else2) → let m = c .before .before in
-    let h = m .before .before .read-label .result in
-    let a = m .before .before .before .before .before .before .args in
-    Measures (h .index) (h .id) (h .size) (length (a .directory .now)) (length (a .values .now)) (m .measure .result)
-passed c = measures _ (c .before .before .measure .ensures) (c .if2 .left)
-
-sub-check-part : tie.Need-sub-check-part
-sub-check-part c = omega (arith, passed (c .before .before))
-
-part-check-part-start : tie.Need-part-check-part-start
-part-check-part-start c = omega (arith, passed (c .before .before))
-
-part-check-part-end : tie.Need-part-check-part-end
-part-check-part-end c = omega (arith, passed (c .before .before))
-
-slice-aggregate-check-part : tie.Need-slice-aggregate-check-part
-slice-aggregate-check-part c = sym (length-take-le _ _ (passed (c .before .before .before .before) .formattable .values))
-
-check-part-requires : tie.Need-check-part-requires
-check-part-requires c κs =
-    let e = c .before .before .before .before in
-    let m = e .before .before in
-    check-asks _ _ (m .before .before .read-label .ensures) (m .measure .ensures) (e .if2 .left)
+returns-2 c = check-first _ _ _ (c .before .before .check-half .ensures) (c .if2 .taken)
 
 returns-3 : tie.Need-returns-3
 returns-3 c =
-    let p = c .before .before .before .before in
-    let e = p .before .before .before .before .before in
-    let m = e .before .before in
-    check-sums _ _ (m .before .before .read-label .ensures) (m .measure .ensures) (e .if2 .left) (p .check-part .ensures) (c .if3 .taken)
-
-returns-4 : tie.Need-returns-4
-unfolding part
-returns-4 c = check-zeros _ _ (c .before .all-zero .ensures) (c .if4 .taken)
-
-returns-5 : tie.Need-returns-5
-unfolding part
-returns-5 c =
     let z = c .before in
     let i = z .before .before in
-    let p = i .before .before .before .before in
-    let e = p .before .before .before .before .before in
-    let m = e .before .before in
-    let b = m .before .before .before .before .before in
-    check-passed _ _ (m .before .before .read-label .ensures) (m .measure .ensures) (e .if2 .left) (p .check-part .ensures)
-    (z .all-zero .ensures) (c .if4 .left) (i .if3 .left) (λ i l. b .shared-slice-known .given i .fits)
+    let o = i .before .before in
+    check-rest _ _ _ (halved o .check-half .ensures) (o .if2 .left) (i .before .read32 .ensures) (i .if3 .taken) (z .all-zero .ensures) (c .if4 .taken)
+
+returns-4 : tie.Need-returns-4
+returns-4 c =
+    let z = c .before in
+    let i = z .before .before in
+    let o = i .before .before in
+    let k = halved o in
+    check-one _ _ _ (k .check-half .ensures) (o .if2 .left) (i .before .read32 .ensures) (i .if3 .taken) (z .all-zero .ensures) (c .if4 .left)
+    (octets (k .before)) (k .before .if1 .left)
+
+-- where the second half has an id
+abbrev first : tie.Else3 → tie.Else2
+first c = c .before .before
+
+check-half-requires-2 : tie.Need-check-half-requires-2
+check-half-requires-2 c κs =
+    let i = c .before in
+    let o = first i in
+    let k = halved o in
+    first-behind _ _ 0 (k .check-half .ensures) (o .if2 .left) (i .before .read32 .ensures) (k .before .if1 .left)
+
+abbrev else3 : tie.After-check-half2 → tie.Else3
+else3 c = c .before .before
+
+returns-5 : tie.Need-returns-5
+returns-5 c =
+    let u = c .before .before .before .before .before .before in
+    let i = else3 u in
+    let o = first i in
+    let k = halved o in
+    check-clash _ _ _ (k .check-half .ensures) (o .if2 .left) (i .before .read32 .ensures) (i .if3 .left) (u .check-half2 .ensures)
+    (octets (k .before)) (k .before .if1 .left) (c .if5 .taken)
+
+abbrev second : tie.Else5 → tie.After-check-half2
+second c = c .before .before .before .before .before .before
+
+returns-6 : tie.Need-returns-6
+returns-6 c =
+    let e = c .before .before in
+    let u = second e in
+    let i = else3 u in
+    let o = first i in
+    let k = halved o in
+    check-named _ _ _ (k .check-half .ensures) (o .if2 .left) (i .before .read32 .ensures) (i .if3 .left) (u .check-half2 .ensures)
+    (octets (k .before)) (k .before .if1 .left) (e .if5 .left) (c .if6 .taken)
+
+returns-7 : tie.Need-returns-7
+returns-7 c =
+    let e = c .before .before in
+    let u = second e in
+    let i = else3 u in
+    let o = first i in
+    let k = halved o in
+    check-other _ _ _ (k .check-half .ensures) (o .if2 .left) (i .before .read32 .ensures) (i .if3 .left) (u .check-half2 .ensures)
+    (octets (k .before)) (k .before .if1 .left) (e .if5 .left) (c .if6 .left)
 
 pub check-spec : {M : Type 1} → statement M
 check-spec =
     tie.close
-    (tie.spec returns (λ c. search needs) (λ c. search needs) (λ c. search needs) returns-2 (λ c. search needs) sub-check-part
-    part-check-part-start part-check-part-end slice-aggregate-check-part check-part-requires returns-3 (λ c. search needs) (λ c. search needs)
-    (λ c. search needs) (λ c. search needs) returns-4 returns-5)
+    (tie.spec returns (λ c κs. search needs) returns-2 (λ c. search needs) (λ c. search needs) (λ c. search needs) (λ c. search needs)
+    (λ c κs. search needs) returns-3 returns-4 (λ c. search needs) check-half-requires-2 (λ c. search needs) (λ c. search needs) (λ c. search needs)
+    returns-5 returns-6 returns-7)

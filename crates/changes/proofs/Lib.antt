@@ -1,0 +1,2 @@
+-- What a change does to the bytes.
+mod ChangeLaws

@@ -1,0 +1,2 @@
+-- A pair put or erased.
+mod Pairs

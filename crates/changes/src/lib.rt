@@ -1,0 +1,2 @@
+// The map of one namespace changed.
+pub mod pairs;

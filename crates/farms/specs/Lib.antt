@@ -1,0 +1,4 @@
+pub mod Sides
+pub mod Alone
+pub mod Hosts
+pub mod Shared

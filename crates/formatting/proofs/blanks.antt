@@ -1,0 +1,2 @@
+-- The empty image.
+pub mod Blank

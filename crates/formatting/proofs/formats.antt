@@ -1,0 +1,2 @@
+-- What formatting answers.
+mod Done

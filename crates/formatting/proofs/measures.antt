@@ -1,0 +1,2 @@
+-- The numbers one after the other.
+mod Numbers

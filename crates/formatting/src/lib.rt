@@ -1,0 +1,4 @@
+// Formatting, for one namespace or for two.
+mod blanks;
+pub mod formats;
+pub mod measures;

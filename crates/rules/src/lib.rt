@@ -1,0 +1,2 @@
+// Steps a to j.
+pub mod steps;
