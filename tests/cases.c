@@ -1,5 +1,6 @@
-/* The module from C: the sample of document 01, its cases P1 to P12, bytes behind the key, the used room, a store filled to its last byte and
- * its last slot, two namespaces, and slices without a byte. After each call every byte past the needed part of both slices is compared. */
+/* The module from C: the sample of document 01, its cases P1 to P12, bytes behind the key, the used room, two commands in either order, a
+ * store filled to its last byte and its last slot, two namespaces, and slices without a byte. After each call every byte past the needed
+ * part of both slices is compared. */
 #include "cases.h"
 
 _Static_assert(sizeof(struct kv_room) == 12 && _Alignof(struct kv_room) == 4, "kv_room");
@@ -35,6 +36,25 @@ static void cases(void) {
     expect("store 5", store(0, "A", 1, 5) == 0);
     memset(data, 0xff, sizeof data);
     expect("P12", command(KV_RETRIEVE, 0, "A", 1, 3, 3) == 0 && dword0() == 5 && memcmp(data, "\1\2\3\xff", 4) == 0);
+}
+
+/* Two commands in one order and in the other: the same bytes where all four succeed, and another store in each where the later Store has no
+ * room. */
+static void either_order(void) {
+    static uint8_t left[sizeof directory], values_left[sizeof values];
+    for (int order = 0; order < 2; order++) {
+        format(3, 40);
+        expect("orders: A stored", store(0, "A", 1, 30) == 0);
+        for (int i = 0; i < 2; i++)
+            expect("orders: both succeed", i == order ? store(0, "B", 1, 3) == 0 : command(KV_DELETE, 0, "A", 1, 0, 0) == 0);
+        if (order == 0) memcpy(left, directory, sizeof left), memcpy(values_left, values, sizeof values);
+    }
+    expect("orders: the same bytes", memcmp(left, directory, sizeof left) == 0 && memcmp(values_left, values, sizeof values) == 0);
+    format(3, 2);
+    expect("orders: A has the room", store(0, "A", 1, 1) == 0 && store(0, "B", 1, 1) == 0x81 && command(KV_EXIST, 0, "A", 1, 0, 0) == 0);
+    format(3, 2);
+    expect("orders: B has the room", store(0, "B", 1, 1) == 0 && store(0, "A", 1, 1) == 0x81 && command(KV_EXIST, 0, "A", 1, 0, 0) == 0x87);
+    expect("orders: room once B is deleted", command(KV_DELETE, 0, "B", 1, 0, 0) == 0 && store(0, "A", 1, 1) == 0);
 }
 
 /* Each of the five commands with each byte behind its key other than zero, alone, in a store of the given format that holds "A": 02h,
@@ -160,6 +180,7 @@ int main(void) {
     strict(3, "", 0, (const int[5]){0x86, 0x86, 0x00, 0x86, 0x86});
     strict(0, "01234", 5, (const int[5]){0x86, 0x86, 0x86, 0x86, 0x86}); /* above the format's key length */
     how_full();
+    either_order();
     fill(0, 65536, 60, 1024); /* the last slot and the last byte */
     fill(3, 65536, 0, 1024);  /* the last slot */
     fill(15, 1608, 100, 15);  /* room for a sixteenth key, but not for its value */

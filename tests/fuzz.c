@@ -40,6 +40,7 @@ static void history(uint64_t ordinal) {
         }
     }
     if (intact && one_in(4)) any_again();
+    if (intact && !full) any_orders();
     if (intact) any_walk();
     if (!full && one_in(4)) any_farms();
 }
@@ -55,6 +56,7 @@ int main(int argc, char **argv) {
     missing += report_damage();
     missing += report_again();
     missing += report_farms();
+    missing += report_orders();
     missing += report_walks();
     if (missing > 0) printf("FAILED: %d of these did not occur\n", missing);
     printf("compared with the model: %llu calls, 0 mismatches\n", (unsigned long long)calls);

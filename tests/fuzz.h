@@ -98,6 +98,11 @@ int report_again(void); /* as `report_calls` */
 void any_farms(void);   /* one namespace's commands twice, among others of the other; formats anew */
 int report_farms(void); /* as `report_calls` */
 
+/* ---- fuzz_orders.c */
+
+void any_orders(void);   /* pairs of commands in both orders, on copies of the memory, which is the image of `held` */
+int report_orders(void); /* as `report_calls` */
+
 /* ---- fuzz_walks.c */
 
 void any_walk(void);

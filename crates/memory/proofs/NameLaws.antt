@@ -47,6 +47,27 @@ at-other k n m (s ∷ ss) d = go (eqb n (s .id)) refl (at-other k n m ss d)
         rw e (rw f)
     go false e r = rw e (rw r)
 
+-- changes at two ids come to the same in either order
+pub with-other : (k n : ℕ) (l m : List Pair) (ss : List Namespace) → ¬ (k ≡ n) → with k l (with n m ss) ≡ with n m (with k l ss)
+with-other k n l m [] d = refl
+with-other k n l m (s ∷ ss) d = go (eqb k (s .id)) refl (eqb n (s .id)) refl (with-other k n l m ss d)
+  where
+    go : (y : Bool) → eqb k (s .id) ≡ y → (z : Bool) → eqb n (s .id) ≡ z → with k l (with n m ss) ≡ with n m (with k l ss)
+        → with k l (with n m (s ∷ ss)) ≡ with n m (with k l (s ∷ ss))
+    go true e true f r = absurd (d (eqb-true k (s .id) e ∙ sym (eqb-true n (s .id) f)))
+    go true e false f r = rw (e, f) (rw e)
+    go false e true f r = rw (e, f) (rw e)
+    go false e false f r = rw (e, f) (rw e (rw r))
+
+-- and at one id the later is all that is seen
+pub with-twice : (n : ℕ) (l m : List Pair) (ss : List Namespace) → with n l (with n m ss) ≡ with n l ss
+with-twice n l m [] = refl
+with-twice n l m (s ∷ ss) = go (eqb n (s .id)) refl (with-twice n l m ss)
+  where
+    go : (z : Bool) → eqb n (s .id) ≡ z → with n l (with n m ss) ≡ with n l ss → with n l (with n m (s ∷ ss)) ≡ with n l (s ∷ ss)
+    go true e r = rw e (rw e)
+    go false e r = rw e (rw e (rw r))
+
 pub with-none : (n : ℕ) (m : List Pair) (ss : List Namespace) → held n ss ≡ false → with n m ss ≡ ss
 with-none n m [] h = refl
 with-none n m (s ∷ ss) h =

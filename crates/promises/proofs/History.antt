@@ -58,20 +58,25 @@ stays ss m (formatting l) h q =
     let e : eqb (format (halves l) m .number) 0 ≡ false = not-true _ q in
     rw (format-refused (halves l) m e, e) (record { directory = refl; values = refl }, refl, refl)
 
-stay : (ss : List Namespace) (m : Memory) (xs : List Call) → Holds ss m → never formats m xs ≡ true → Kept ss m (leaves m xs)
-stay ss m [] h n = record { directory = refl; values = refl }
+-- and so do calls of which none formats
+pub stay : (ss : List Namespace) (m : Memory) (xs : List Call) → Holds ss m → never formats m xs ≡ true
+    → Kept ss m (leaves m xs) × (total slotsOf (stored ss m xs) ≡ total slotsOf ss) × (total sizeOf (stored ss m xs) ≡ total sizeOf ss)
+stay ss m [] h n = (record { directory = refl; values = refl }, refl, refl)
 stay ss m (x ∷ xs) h n =
     let b = both _ _ n in
     let k = stays ss m x h (b .0) in
-    let r = stay (told ss x (run m x)) (run m x .after .memory) xs (told-call ss m x h) (b .1) in
-    record { directory = rw (k .1) at (r .directory) ∙ k .0 .directory; values = rw (k .2) at (r .values) ∙ k .0 .values }
+    let r = stay (told ss x (run m x)) (run m x .after .memory) xs (told-call ss m x h) (b .1) in (
+      record { directory = rw (k .1) at (r .0 .directory) ∙ k .0 .directory; values = rw (k .2) at (r .0 .values) ∙ k .0 .values },
+      r .1 ∙ k .1,
+      r .2 ∙ k .2,
+    )
 
 pub past-as-lent : (a : Start) (xs : List Call) → begun a .number ≡ 0 → never formats (begun a .after) xs ≡ true
     → SamePast (blanks (halves (a .layout))) (a .lent) (memoryAfter a xs)
 past-as-lent a xs ok n =
     let ss = blanks (halves (a .layout)) in
     let f = format-kept (a .layout) (a .lent) ok in
-    let k = stay ss (begun a .after) xs (format-holds (halves (a .layout)) (a .lent) (few (a .layout)) ok) n in
+    let k = stay ss (begun a .after) xs (format-holds (halves (a .layout)) (a .lent) (few (a .layout)) ok) n .0 in
     record { directory = sym (k .directory ∙ f .directory); values = sym (k .values ∙ f .values) }
 
 -- ---- the same bytes

@@ -17,8 +17,8 @@ pub mod UniqueBelow
 pub mod Demands
 pub mod StandIns
 pub mod Members
-mod RequestLaws
+pub mod RequestLaws
 mod ShownLaws
 mod AnyMemory
 mod Bits
-mod Examples
+pub mod Examples

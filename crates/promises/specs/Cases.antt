@@ -1,4 +1,4 @@
--- The bench cases P1 to P12 of document 01, P10 as changed by request [1], and those of requests [1], [7] and [13]: one table, and one
+-- The bench cases P1 to P12 of document 01, P10 as changed by request [1], and those of requests [1], [7], [13] and [14]: one table, and one
 -- statement about the definitions. Assumes nothing.
 use mathlib.Core.Path.{_≡_, refl}
 use mathlib.Core.Bool.{true}
@@ -12,9 +12,6 @@ use Rattle.wire.specs.Page.{pageEntry, page}
 use Rattle.store.specs.Namespace.{Namespace, fresh}
 use Rattle.memory.specs.Namespaces.{at, with}
 use Rattle.rules.specs.Steps.{steps, statusOf}
-use Rattle.octets.specs.Tests.{firstOf}
-use Rattle.formatting.specs.declared.measures.Half.{Half}
-use Rattle.formatting.specs.Formatting.{half, formatSteps}
 use Rattle.commands.specs.Answer.{Answer, answer}
 
 -- a 64-byte entry and the data buffer lent with it
@@ -84,6 +81,9 @@ store o k v = call 0x01 o k (length k) (length v) v
 
 abbrev pub retrieve : Key → List ℕ → Call
 retrieve k b = call 0x02 0 k (length k) (length b) b
+
+abbrev pub delete : Key → Call
+delete k = call 0x10 0 k (length k) 0 []
 
 abbrev pub list : Key → List ℕ → Call
 list k b = call 0x06 0 k (length k) (length b) b
@@ -206,45 +206,22 @@ table =
     ∷ case 3 4096 (gives [] (existTo 2 A) 0x0b 0 [] ∷ gives [] (existTo 0 A) 0x0b 0 [] ∷ [])
     -- [13], with a key that is too long for the format
     ∷ case 0 4096 (gives [] (call 0x14 0 (replicate 6 0x41) 5 0 []) 0x02 0 [] ∷ [])
+    -- [14], two Stores into room for one: the later is refused, and the earlier is what is stored
+    ∷ case 3 2 (
+    gives (store 0 A (junk 1) ∷ []) (store 0 B (junk 1)) 0x81 0 (junk 1)
+    ∷ gives (store 0 B (junk 1) ∷ []) (store 0 A (junk 1)) 0x81 0 (junk 1)
+    ∷ gives (store 0 A (junk 1) ∷ store 0 B (junk 1) ∷ []) (list [] (junk 8)) 0x00 0 (0x01 ∷ 0x00 ∷ 0x00 ∷ 0x00 ∷ 0x01 ∷ 0x00 ∷ 0x41 ∷ 0x00 ∷ [])
+    ∷ gives (store 0 B (junk 1) ∷ store 0 A (junk 1) ∷ []) (list [] (junk 8)) 0x00 0 (0x01 ∷ 0x00 ∷ 0x00 ∷ 0x00 ∷ 0x01 ∷ 0x00 ∷ 0x42 ∷ 0x00 ∷ [])
+    ∷ []
+    )
+    -- [14], a Store that has room once another key is deleted, and not before
+    ∷ case 3 2 (
+    gives (store 0 A (junk 1) ∷ []) (store 0 B (junk 1)) 0x81 0 (junk 1)
+    ∷ gives (store 0 A (junk 1) ∷ delete A ∷ []) (store 0 B (junk 1)) 0x00 0 (junk 1)
+    ∷ []
+    )
     ∷ []
 
 pub cases : map got table ≡ map wanted table
 unfolding readCommand writeCommand part put number pageEntry page answer statusOf steps
 cases = refl
-
--- ---- the numbers of a formatting of two
-
--- what it is given, the lengths of directory and value slice, and the number that it must give
-pub record Ask : Type 0 where
-  pub first : Half
-  pub second : Half
-  pub directory : ℕ
-  pub values : ℕ
-  pub want : ℕ
-
-abbrev pub ask : Half → Half → ℕ → ℕ → ℕ → Ask
-ask h k d v n = record { first = h; second = k; directory = d; values = v; want = n }
-
-abbrev pub numberOf : Ask → ℕ
-numberOf a = firstOf (formatSteps (a .first ∷ a .second ∷ []) (a .directory) (a .values))
-
--- formats of 16 keys, which need 64 + 32 * 32 bytes; each row has all faults of the rows below it, but for the last two, which have none
-abbrev pub asks : List Ask
-asks =
-    ask (half 16 0 0) (half 16 0 0) 0 0 3
-    ∷ ask (half 15 0 0) (half 16 0 0) 0 0 4
-    ∷ ask (half 15 9 0) (half 16 0 0) 0 0 5
-    ∷ ask (half 15 9 65536) (half 16 0 0) 0 0 3
-    ∷ ask (half 15 9 65536) (half 15 0xffff_ffff 0) 0 0 4
-    ∷ ask (half 15 9 65536) (half 15 9 0xffff_ffff_ffff_ffff) 0 0 5
-    ∷ ask (half 15 9 65536) (half 15 9 65536) 0 0 19
-    ∷ ask (half 15 9 65536) (half 15 8 65536) 0 0 5
-    ∷ ask (half 15 9 65535) (half 15 8 1) 1087 65536 6
-    ∷ ask (half 15 9 65535) (half 15 8 1) 1088 65535 6
-    ∷ ask (half 15 9 65535) (half 15 8 1) 1088 65536 0
-    ∷ ask (half 15 9 1) (half 15 8 1) 1088 2 0
-    ∷ []
-
-pub numbers : map numberOf asks ≡ map (λ (a : Ask). a .want) asks
-unfolding formatSteps
-numbers = refl

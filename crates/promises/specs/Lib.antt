@@ -1,4 +1,5 @@
 pub mod Cases
+pub mod Numbers
 pub mod Histories
 pub mod Requests
 pub mod Calls

@@ -1,0 +1,74 @@
+-- Two calls in one order and in the other: what each hands back, and what both leave. A call has its own data buffer, and the queue
+-- numbers that its caller gives are its own in either order. Assumes nothing.
+use mathlib.Core.Path.{_≡_}
+use mathlib.Core.Bool.{Bool, true, false}
+use mathlib.Core.List.{List}
+use Prim.Native.Nat.{ℕ}
+use lib.Dec.{eqb}
+use Rattle.octets.specs.Keys.{Key}
+use Rattle.wire.specs.Entry.{readCommand, keyOf}
+use Rattle.memory.specs.Memory.{Memory, legal}
+use Rattle.commands.specs.Command.{Outcome}
+use Rattle.room.specs.declared.polls.Room.{Room}
+use Rattle.module.specs.History.{Call, formatting, commanding, polling, succeeded}
+use Rattle.farms.specs.Sides.{Device, next}
+use Rattle.promises.specs.Histories.{writes}
+use Rattle.promises.specs.Requests.{Request, call, asked}
+
+-- what a call hands back: the number, and completion and data buffer as they stand afterwards, whole; a poll, its answer
+pub data Given : Type 0 where
+  returned : ℕ → List ℕ → List ℕ → Given
+  polled : Room → Given
+
+abbrev pub handed : Outcome → Given
+handed o = returned (o .number) (o .after .completion) (o .after .buffer)
+
+abbrev pub given : Device → Memory → Call → Given
+given d m (formatting l) = handed (d .does m (formatting l))
+given d m (commanding p e c b) = handed (d .does m (commanding p e c b))
+given d m (polling n) = polled (d .room n m)
+
+-- x before y, or y before x: each hands back the same, and memory is left the same, byte by byte
+pub record EitherOrder (d : Device) (m : Memory) (x y : Call) : Type 0 where
+  pub first : given d (next d m y) x ≡ given d m x
+  pub second : given d (next d m x) y ≡ given d m y
+  pub left : next d (next d m x) y ≡ next d (next d m y) x
+
+-- ---- on one namespace
+
+-- a Store or a Delete, of key k in the namespace n
+pub record Changes (n : ℕ) (k : Key) (x : Request) : Type 0 where
+  pub nsid : asked x .nsid ≡ n
+  pub key : keyOf (asked x) ≡ k
+  pub writes : writes (asked x .opcode) ≡ true
+
+-- x and behind it y, both with number 0 and status 00h
+pub record Succeed (d : Device) (m : Memory) (x y : Call) : Type 0 where
+  pub first : succeeded (d .does m x) ≡ true
+  pub second : succeeded (d .does (next d m x) y) ≡ true
+
+-- request [14]: of different keys, with success in either order
+pub record Rivals (d : Device) (m : Memory) (x y : Request) : Type 0 where
+  pub nsid : ℕ
+  pub key : Key
+  pub other : Key
+  pub apart : ¬ (key ≡ other)
+  pub one : Changes nsid key x
+  pub two : Changes nsid other y
+  pub forth : Succeed d m (call x) (call y)
+  pub back : Succeed d m (call y) (call x)
+
+abbrev pub Swaps : Device → Type 0
+Swaps d = (m : Memory) (x y : Request) → legal m ≡ true → Rivals d m x y → EitherOrder d m (call x) (call y)
+
+-- ---- on different namespaces
+
+-- a command or a poll that names n; a formatting names none
+abbrev pub named : ℕ → Call → Bool
+named n (formatting l) = false
+named n (commanding p e c b) = eqb n (readCommand e .nsid)
+named n (polling k) = eqb n k
+
+-- request [14]: whether they succeed or not, and whether memory holds i and j or not
+abbrev pub Commutes : Device → Type 0
+Commutes d = (m : Memory) (i j : ℕ) (x y : Call) → legal m ≡ true → ¬ (i ≡ j) → named i x ≡ true → named j y ≡ true → EitherOrder d m x y
