@@ -20,9 +20,10 @@ static struct {
 } before, left;
 static struct model_store maps;
 
-/* one namespace: by Store and Delete, pairs that succeeded in both orders, and pairs that did not and left different stores; different
- * namespaces: by command, pairs that both succeeded, pairs with a refusal among them, and pairs with an id that none has */
-static uint64_t swapped[2][2], parted, beside[5][5], refused, strangers;
+/* one namespace: by Store and Delete, pairs that succeeded in both orders; pairs with a refusal that was not for room; and pairs that left
+ * different stores; different namespaces: by command, pairs that both succeeded, pairs with a refusal among them, and pairs with an id that
+ * none has */
+static uint64_t swapped[2][2], vain, parted, beside[5][5], refused, strangers;
 
 static void send(struct reader *r, uint32_t order) {
     uint64_t kept = state;
@@ -66,6 +67,8 @@ static int in_either_order(void) {
 
 static int succeeded(const struct reader *r) { return r->told[0].status == 0 && r->told[1].status == 0; }
 
+static int found_room(const struct reader *r) { return r->told[0].status != 0x81 && r->told[1].status != 0x81; }
+
 static void plan(struct reader *r, uint32_t kind, uint32_t id, const uint8_t *key, uint32_t len, uint32_t amount) {
     number("orders: built", build(64, opcodes[kind], id, key, len, amount, one_in(8) ? next() : 0), 0);
     memcpy(r->entry, real.entry, 64);
@@ -97,10 +100,11 @@ static void rivals(void) {
     for (uint32_t i = 0; i < 2; i++) lens[i] = draw(kinds[i], keys[i]);
     if (lens[0] == lens[1] && memcmp(keys[0], keys[1], lens[0]) == 0) keys[1][0] ^= 1 + below(255);
     for (uint32_t i = 0; i < 2; i++) plan(readers + i, kinds[i], ours()->id, keys[i], lens[i], asked_room(kinds[i], lens[i]));
-    int same = in_either_order(), all = succeeded(readers) && succeeded(readers + 1);
-    if (all && !same) differ("orders: one namespace, both with success", 0, 1);
+    int same = in_either_order(), all = succeeded(readers) && succeeded(readers + 1), room = found_room(readers) && found_room(readers + 1);
+    if (room && !same) differ("orders: one namespace, none refused for room", 0, 1);
     swapped[kinds[0]][kinds[1]] += all;
-    parted += !all && !same;
+    vain += room && !all;
+    parted += !same;
 }
 
 /* any commands, of two namespaces or of an id that none has */
@@ -132,15 +136,16 @@ void any_orders(void) {
 
 int report_orders(void) {
     static const char *const names[5] = {"Store", "Delete", "Retrieve", "List", "Exist"};
-    int missing = (parted == 0) + (refused == 0) + (strangers == 0);
+    int missing = (vain == 0) + (parted == 0) + (refused == 0) + (strangers == 0);
     printf("in either order, one namespace, both with success:");
     for (int i = 0; i < 2; i++)
         for (int j = 0; j < 2; j++) {
             printf(" %s and %s %llu,", names[i], names[j], (unsigned long long)swapped[i][j]);
             missing += swapped[i][j] == 0;
         }
-    printf(" and left different stores where one was refused %llu\nin either order, two namespaces, both with success, by command:",
+    printf(" with a refusal but not for room %llu, and left different stores after an 81h %llu\n", (unsigned long long)vain,
            (unsigned long long)parted);
+    printf("in either order, two namespaces, both with success, by command:");
     for (int i = 0; i < 5; i++) {
         printf(" %s", names[i]);
         for (int j = 0; j < 5; j++) {

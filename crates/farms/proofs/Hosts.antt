@@ -13,9 +13,9 @@ use Rattle.memory.specs.Namespaces.{at}
 use Rattle.memory.specs.Memory.{Memory}
 use Rattle.formatting.specs.Formatting.{half}
 use Rattle.commands.specs.Command.{Post, post}
-use Rattle.module.specs.History.{one, formatting, polling, run}
+use Rattle.module.specs.History.{one, formatting, polling, run, formats}
 use Rattle.farms.specs.Sides.{real, next, Ask, sends, polls, asks, own, Seen, answered, polled, shows}
-use Rattle.farms.specs.Sides.{Start, farms, ready, sees, formats, unformatted, Follows}
+use Rattle.farms.specs.Sides.{Start, farms, ready, sees, unformatted, Follows}
 use Rattle.farms.specs.Alone.{alone}
 use Rattle.farms.specs.Hosts.{Host, Names, HostOf, Turn, mine, theirs, Elsewhere, callOf, made, hosted, turns, chosen}
 use Rattle.farms.proofs.Stands.{Stands, left, stands-next, shows-alone}

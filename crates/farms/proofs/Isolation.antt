@@ -18,10 +18,10 @@ use Rattle.rules.proofs.StepLaws.{never-06h as no-06h}
 use Rattle.formatting.specs.Formatting.{half, format, formatSteps}
 use Rattle.formatting.proofs.FormatLaws.{format-holds}
 use Rattle.commands.specs.Command.{Post, post}
-use Rattle.module.specs.History.{one, two, halves, Call, formatting, commanding, polling, run, leaves}
+use Rattle.module.specs.History.{one, two, halves, Call, formatting, commanding, polling, run, leaves, status, formats}
 use Rattle.module.proofs.HistoryLaws.{few, call-status, told-calls}
-use Rattle.farms.specs.Sides.{real, next, Ask, sends, asks, own, answered, polled, status, before, side}
-use Rattle.farms.specs.Sides.{Start, blank, farms, begun, ready, sees, formats, unformatted, Follows, Isolates}
+use Rattle.farms.specs.Sides.{real, next, Ask, sends, asks, own, answered, polled, before, side}
+use Rattle.farms.specs.Sides.{Start, blank, farms, begun, ready, sees, unformatted, Follows, Isolates}
 use Rattle.farms.specs.Alone.{meets, after, alone}
 use Rattle.farms.specs.Hosts.{callOf}
 use Rattle.farms.proofs.Examples.{onMap, start, start-begun, A, entry, ask, call}

@@ -23,9 +23,9 @@ use Rattle.commands.proofs.AnswerLaws.{answer-status, dword0-small}
 use Rattle.commands.proofs.CommandLaws.{entry-key, serve-holds, command-0, command-1, command-2}
 use Rattle.room.specs.Room.{filledBy, room}
 use Rattle.room.proofs.PollLaws.{room-held}
-use Rattle.module.specs.History.{Layout, halves, Call, formatting, commanding, polling, lend, run}
+use Rattle.module.specs.History.{Layout, halves, Call, formatting, commanding, polling, lend, run, formats}
 use Rattle.module.proofs.HistoryLaws.{call-number, call-status, call-dword0, call-buffer}
-use Rattle.farms.specs.Sides.{real, Ask, sends, asks, answered, polled, seenOf, shows, formats}
+use Rattle.farms.specs.Sides.{real, Ask, sends, asks, answered, polled, seenOf, shows}
 use Rattle.farms.specs.Alone.{refusal, meets, after, alone}
 
 -- ---- a command, on the namespace that it names

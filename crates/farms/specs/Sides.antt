@@ -1,7 +1,7 @@
 -- One memory for two farms, and what one of them sees of a device: what its own calls show it, and its used room at the end.
 -- Queue head, queue and phase are the caller's and stay outside. Assumes nothing.
 use mathlib.Core.Path.{_≡_}
-use mathlib.Core.Bool.{Bool, true, false, cond, not, _&&_}
+use mathlib.Core.Bool.{Bool, true, cond, not, _&&_}
 use mathlib.Core.List.{List, [], _∷_, _++_}
 use Prim.Native.Nat.{ℕ}
 use lib.Dec.{eqb}
@@ -15,7 +15,7 @@ use Rattle.formatting.specs.Formatting.{blanks}
 use Rattle.commands.specs.Command.{Outcome}
 use Rattle.room.specs.declared.polls.Room.{Room}
 use Rattle.room.specs.Room.{room}
-use Rattle.module.specs.History.{two, Call, formatting, commanding, polling, run}
+use Rattle.module.specs.History.{two, Call, formatting, commanding, polling, run, status, formats}
 
 -- what a call does to memory, and what a poll of an id gives
 pub record Device : Type 0 where
@@ -52,9 +52,6 @@ own n (x ∷ xs) = asks n x ++ own n xs
 pub data Seen : Type 0 where
   answered : ℕ → ℕ → ℕ → List ℕ → Seen
   polled : Room → Seen
-
-abbrev pub status : Outcome → ℕ
-status o = readCompletion (o .after .completion) .status
 
 abbrev pub seenOf : Outcome → Seen
 seenOf o = answered (o .number) (status o) (readCompletion (o .after .completion) .dword0) (o .after .buffer)
@@ -101,11 +98,6 @@ ready d a = begun d a .after .memory
 
 abbrev pub sees : Device → ℕ → Start → List Call → Side
 sees d n a xs = side d n (ready d a) xs
-
-abbrev pub formats : Call → Outcome → Bool
-formats (formatting l) o = eqb (o .number) 0
-formats (commanding p e c b) o = false
-formats (polling k) o = false
 
 -- none of the calls is a formatting that succeeds
 abbrev pub unformatted : Device → Memory → List Call → Bool

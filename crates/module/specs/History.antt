@@ -1,6 +1,6 @@
 -- A history of calls, each lent the same two slices whole; and what it leaves stored, told from the numbers and statuses alone.
 -- Assumes nothing.
-use mathlib.Core.Bool.{Bool, cond, _&&_}
+use mathlib.Core.Bool.{Bool, false, cond, _&&_}
 use mathlib.Core.List.{List, [], _∷_}
 use Prim.Native.Nat.{ℕ}
 use lib.Dec.{eqb}
@@ -45,9 +45,19 @@ abbrev pub leaves : Memory → List Call → Memory
 leaves m [] = m
 leaves m (x ∷ xs) = leaves (run m x .after .memory) xs
 
--- number 0 and, in the completion, status 00h
+-- the status that the completion says
+abbrev pub status : Outcome → ℕ
+status o = readCompletion (o .after .completion) .status
+
+-- number 0 and status 00h
 abbrev pub succeeded : Outcome → Bool
-succeeded o = eqb (o .number) 0 && eqb (readCompletion (o .after .completion) .status) 0
+succeeded o = eqb (o .number) 0 && eqb (status o) 0
+
+-- it formats with success
+abbrev pub formats : Call → Outcome → Bool
+formats (formatting l) o = eqb (o .number) 0
+formats (commanding p e c b) o = false
+formats (polling n) o = false
 
 -- a Store puts and a Delete takes out, in the namespace that it names
 abbrev pub changed : Command → List ℕ → List Namespace → List Namespace

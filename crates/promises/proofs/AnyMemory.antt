@@ -12,12 +12,11 @@ use Rattle.memory.specs.Namespaces.{at}
 use Rattle.memory.specs.Memory.{Memory, namespacesOf, legal}
 use Rattle.rules.specs.Steps.{statusOf}
 use Rattle.commands.specs.Command.{Post, respond, serve, Outcome, outcome}
-use Rattle.module.specs.History.{commanding, lend, run}
+use Rattle.module.specs.History.{commanding, lend, run, status}
 use Rattle.rules.proofs.StepLaws.{status-byte}
 use Rattle.commands.proofs.AnswerLaws.{answer-status}
 use Rattle.commands.proofs.CommandLaws.{command-0, command-1, command-2}
 use Rattle.module.proofs.HistoryLaws.{status-back}
-use Rattle.promises.specs.Calls.{status}
 
 module _ (m : Memory) (p : Post) (e c b : List ℕ) where
   -- the namespace that it names, if memory is legal

@@ -20,10 +20,10 @@ use Rattle.memory.proofs.ImageLaws.{Holds}
 use Rattle.formatting.specs.Formatting.{half, blanks, format}
 use Rattle.formatting.proofs.FormatLaws.{format-holds, format-refused}
 use Rattle.commands.proofs.CommandLaws.{Kept}
-use Rattle.module.specs.History.{one, halves, Call, formatting, commanding, polling, run, leaves, succeeded, told, stored}
+use Rattle.module.specs.History.{one, halves, Call, formatting, commanding, polling, run, leaves, succeeded, told, stored, formats}
 use Rattle.module.proofs.HistoryLaws.{few, told-call, command-kept, format-kept}
 use Rattle.wire.specs.Entry.{readCommand}
-use Rattle.promises.specs.Histories.{Start, begun, memoryAfter, storedAfter, Shows, SamePast, SameNeeded, AllPairs, never, formats}
+use Rattle.promises.specs.Histories.{Start, begun, memoryAfter, storedAfter, Shows, SamePast, SameNeeded, AllPairs, never}
 use Rattle.promises.specs.Requests.{call}
 use Rattle.promises.proofs.RequestLaws.{holds-after}
 use Rattle.promises.proofs.Examples.{onMemory, start, start-begun, startTwo, two-begun, A, B, store, storeTwo, vain}

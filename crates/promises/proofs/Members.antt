@@ -16,10 +16,9 @@ use Rattle.wire.proofs.PageLaws.{page-back}
 use Rattle.memory.specs.Namespaces.{at as named}
 use Rattle.rules.specs.Steps.{statusOf}
 use Rattle.commands.specs.Command.{command}
-use Rattle.module.specs.History.{Call, formatting, commanding, polling, run, succeeded}
+use Rattle.module.specs.History.{Call, formatting, commanding, polling, run, succeeded, status}
 use Rattle.module.proofs.HistoryLaws.{status-back}
 use Rattle.promises.specs.Requests.{Request, call, asked}
-use Rattle.promises.specs.Calls.{status}
 use Rattle.promises.specs.Devices.{real, Point, at, moved, goes, opened}
 use Rattle.promises.specs.Demands.{Opens, Accepts, Retrieves, Misses, Images, Pages, Walks}
 use Rattle.promises.specs.StandIns.{Says, Leaves, Forgets, Idles, Posts, Counts, Invents, Empties, saying, staying, resting, counting}

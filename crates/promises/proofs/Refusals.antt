@@ -15,14 +15,14 @@ use Rattle.wire.specs.Completion.{readCompletion}
 use Rattle.memory.specs.Memory.{Memory}
 use Rattle.formatting.specs.Formatting.{half, format}
 use Rattle.commands.specs.Command.{Post, Lent, Outcome}
-use Rattle.module.specs.History.{one, halves, Call, formatting, commanding, polling, lend, run}
+use Rattle.module.specs.History.{one, halves, Call, formatting, commanding, polling, lend, run, status}
 use Rattle.commands.proofs.CommandLaws.{command-0, command-1, command-2, serve-refused}
 use Rattle.formatting.proofs.FormatLaws.{format-refused}
 use Rattle.host.specs.Build as Build
 use Rattle.promises.specs.Agreement.{Ask, builds}
 use Rattle.promises.specs.Histories.{begun}
 use Rattle.promises.specs.Requests.{Request, call, sends}
-use Rattle.promises.specs.Calls.{lentTo, status, Spares}
+use Rattle.promises.specs.Calls.{lentTo, Spares}
 use Rattle.promises.proofs.AnyMemory.{any-served, any-status}
 use Rattle.promises.proofs.Examples.{onMemory, start, B, store}
 

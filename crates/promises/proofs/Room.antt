@@ -21,10 +21,9 @@ use Rattle.rules.proofs.StepLaws.{illegal, never-06h}
 use Rattle.room.specs.declared.polls.Room.{Room}
 use Rattle.room.specs.Room.{filledBy, noRoom, room}
 use Rattle.room.proofs.PollLaws.{room-held}
-use Rattle.module.specs.History.{Call, commanding, polling, run}
+use Rattle.module.specs.History.{Call, commanding, polling, run, status}
 use Rattle.promises.specs.Histories.{Start, begun, memoryAfter, storedAfter, storedIn, Sums}
 use Rattle.promises.specs.Requests.{call, sends}
-use Rattle.promises.specs.Calls.{status}
 use Rattle.promises.proofs.AnyMemory.{any-status}
 use Rattle.promises.proofs.RequestLaws.{holds-after}
 use Rattle.promises.proofs.Examples.{onMemory, start, start-begun, startTwo, two-begun, request, A, B, key, store, storeTwo, exist, vain}

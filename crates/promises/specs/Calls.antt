@@ -7,12 +7,11 @@ use lib.Dec.{eqb}
 use Rattle.octets.specs.Octets.{same}
 use Rattle.octets.specs.Keys.{Key}
 use Rattle.wire.specs.Entry.{readCommand, keyOf, isStore}
-use Rattle.wire.specs.Completion.{readCompletion}
 use Rattle.store.specs.Namespace.{Namespace}
 use Rattle.memory.specs.Memory.{Memory, namespacesOf}
 use Rattle.formatting.specs.Formatting.{blanks}
 use Rattle.commands.specs.Command.{Lent, Outcome}
-use Rattle.module.specs.History.{halves, Call, formatting, commanding, polling, lend, succeeded}
+use Rattle.module.specs.History.{halves, Call, formatting, commanding, polling, lend, succeeded, status}
 use Rattle.promises.specs.Histories.{SameNeeded}
 
 -- all that a call is lent; a formatting and a poll have neither completion nor data buffer
@@ -20,10 +19,6 @@ abbrev pub lentTo : Memory → Call → Lent
 lentTo m (formatting l) = lend [] [] m
 lentTo m (commanding p e c b) = lend c b m
 lentTo m (polling n) = lend [] [] m
-
--- the status that the completion says
-abbrev pub status : Outcome → ℕ
-status o = readCompletion (o .after .completion) .status
 
 -- o is the outcome of a call that was lent l: a number other than 0 leaves all of it, a status other than 00h all but the completion
 pub record Spares (l : Lent) (o : Outcome) : Type 0 where

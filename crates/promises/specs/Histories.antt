@@ -91,12 +91,6 @@ neverOn w f q (x ∷ xs) = not (f x (w .does q x)) && neverOn w f (w .goes q (x 
 abbrev pub never : (Call → Outcome → Bool) → Memory → List Call → Bool
 never = neverOn own
 
--- it formats with success
-abbrev pub formats : Call → Outcome → Bool
-formats (formatting l) o = eqb (o .number) 0
-formats (commanding p e c b) o = false
-formats (polling n) o = false
-
 -- Store and Delete change what is stored; Retrieve, List and Exist only answer
 abbrev pub writes : ℕ → Bool
 writes op = isStore op || isDelete op

@@ -11,10 +11,9 @@ use Rattle.wire.specs.Page.{page, keys, readPage}
 use Rattle.memory.specs.Namespaces.{at as named}
 use Rattle.memory.specs.Memory.{Memory}
 use Rattle.commands.specs.Command.{Post, completionOf, outcome}
-use Rattle.module.specs.History.{Call, formatting, commanding, polling, lend, run, succeeded}
+use Rattle.module.specs.History.{Call, formatting, commanding, polling, lend, run, succeeded, status}
 use Rattle.promises.specs.Histories.{Start}
 use Rattle.promises.specs.Requests.{Request, call, asked}
-use Rattle.promises.specs.Calls.{status}
 use Rattle.promises.specs.Devices.{Device, at, opens, reached}
 use Rattle.promises.specs.Demands.{shownTo}
 

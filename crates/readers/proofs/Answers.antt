@@ -65,9 +65,14 @@ pub given-same : (n : ℕ) (ss ts : List Namespace) (m k : Memory) (x : Call) �
     → given real m x ≡ given real k x
 given-same n ss ts m k x h g e f = given-is ss m h n x f ∙ ap (alone x) e ∙ sym (given-is ts k g n x f)
 
+-- the status in its completion
+abbrev pub statusIn : Given → ℕ
+statusIn (returned n c b) = readCompletion c .status
+statusIn (polled r) = 0
+
 -- ---- what it tells of what is stored
 
-abbrev pub done : Given → Bool
+abbrev done : Given → Bool
 done (returned n c b) = eqb n 0 && eqb (readCompletion c .status) 0
 done (polled r) = false
 

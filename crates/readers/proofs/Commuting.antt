@@ -9,10 +9,10 @@ use Rattle.octets.proofs.TestLaws.{contrary}
 use Rattle.store.specs.Namespace.{Namespace}
 use Rattle.memory.specs.Memory.{Memory, namespacesOf, legal}
 use Rattle.memory.proofs.ImageLaws.{Holds, holds-legal, legal-holds}
-use Rattle.module.specs.History.{Call, formatting, commanding, polling, run, told}
+use Rattle.module.specs.History.{Call, formatting, commanding, polling, run, told, formats}
 use Rattle.module.proofs.HistoryLaws.{told-call}
 use Rattle.farms.specs.Sides.{real, next}
-use Rattle.promises.specs.Histories.{Start, begun, memoryAfter, storedAfter, never, formats}
+use Rattle.promises.specs.Histories.{Start, begun, memoryAfter, storedAfter, never}
 use Rattle.promises.specs.Requests.{call}
 use Rattle.promises.proofs.History.{history}
 use Rattle.promises.proofs.Images.{shows-legal}

@@ -9,9 +9,9 @@ use Rattle.memory.specs.Namespaces.{total, slotsOf, sizeOf}
 use Rattle.memory.specs.Memory.{Memory, memory, needed, neededValues, directoryOf, valuesOf}
 use Rattle.memory.proofs.ImageLaws.{Holds, directory-split, values-split}
 use Rattle.commands.proofs.CommandLaws.{Kept}
-use Rattle.module.specs.History.{Call, leaves, stored}
+use Rattle.module.specs.History.{Call, leaves, stored, formats}
 use Rattle.module.proofs.HistoryLaws.{told-calls}
-use Rattle.promises.specs.Histories.{never, formats}
+use Rattle.promises.specs.Histories.{never}
 use Rattle.promises.proofs.History.{stay}
 
 -- the image of ts, and behind it what m has past the needed part of ss

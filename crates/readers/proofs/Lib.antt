@@ -4,5 +4,7 @@ pub mod Swapping
 pub mod Mixing
 pub mod Marks
 mod Pairs
+mod Statuses
+mod Unseen
 mod Answers
 mod Left

@@ -6,7 +6,6 @@ use mathlib.Core.List.{[], _∷_}
 use Prim.Native.Nat.{ℕ}
 use native.Mathlib.Omega.{arith}
 use Rattle.octets.specs.Octets.{part, number}
-use Rattle.wire.specs.Completion.{readCompletion}
 use Rattle.memory.specs.Memory.{Memory, legal}
 use Rattle.module.specs.History.{Call}
 use Rattle.farms.specs.Sides.{real, next, ready}
@@ -15,8 +14,9 @@ use Rattle.farms.proofs.Examples.{start as startTwo, call as callTo}
 use Rattle.promises.specs.Histories.{begun}
 use Rattle.promises.specs.Requests.{call}
 use Rattle.promises.proofs.Examples.{onMap, onMemory, start, start-begun, A, B, store}
-use Rattle.readers.specs.Orders.{Given, returned, polled, given, named, Rivals, Swaps, Commutes}
+use Rattle.readers.specs.Orders.{given, named, Apart, Succeed, Swaps, Commutes}
 use Rattle.readers.specs.Marks.{marks}
+use Rattle.readers.proofs.Answers.{statusIn}
 use Rattle.readers.proofs.Commuting.{legal-after, commutes}
 use Rattle.readers.proofs.Swapping.{swaps}
 
@@ -25,19 +25,21 @@ use Rattle.readers.proofs.Swapping.{swaps}
 abbrev blank : Memory
 blank = begun (start 7) .after
 
-rivals : Rivals marks blank (store A []) (store B [])
-unfolding onMemory
-rivals =
+changes : Apart (store A []) (store B [])
+unfolding onMap
+changes =
     record {
       nsid = 1;
       key = A;
       other = B;
-      apart = λ e. let z : _≡_ {A = ℕ} 0x41 0x42 = cc in omega arith;
+      differ = λ e. let z : _≡_ {A = ℕ} 0x41 0x42 = cc in omega arith;
       one = record { nsid = refl; key = refl; writes = refl };
       two = record { nsid = refl; key = refl; writes = refl };
-      forth = record { first = refl; second = refl };
-      back = record { first = refl; second = refl };
     }
+
+met : Succeed marks blank (call (store A [])) (call (store B [])) × Succeed marks blank (call (store B [])) (call (store A []))
+unfolding onMemory
+met = (record { first = refl; second = refl }, record { first = refl; second = refl })
 
 -- the byte behind the needed part
 abbrev mark : Memory → ℕ
@@ -52,7 +54,7 @@ pub marks-apart : Swaps real × ¬ Swaps marks
 marks-apart = (
   swaps,
   λ s.
-      let e = ap mark (s blank (store A []) (store B []) (legal-after (start 7) [] (start-begun 7)) rivals .left) in
+      let e = ap mark (s blank (store A []) (store B []) (legal-after (start 7) [] (start-begun 7)) changes (met .0) (met .1) .left) in
       let z : _≡_ {A = ℕ} 0x42 0x41 = sym (marked .0) ∙ e ∙ marked .1 in
       omega arith,
 )
@@ -68,10 +70,6 @@ one = callTo 0x01 1 A (5 ∷ [])
 
 abbrev other : Call
 other = callTo 0x01 2 A (9 ∷ [])
-
-abbrev statusIn : Given → ℕ
-statusIn (returned n c b) = readCompletion c .status
-statusIn (polled r) = 0
 
 statuses : (legal pair ≡ true) × (statusIn (given shared (next shared pair other) one) ≡ 0x81) × (statusIn (given shared pair one) ≡ 0x00)
 unfolding onMemory

@@ -50,6 +50,9 @@ change c b m r = go (isStore (c .opcode)) (isDelete (c .opcode))
     go false true = record { rising = erase-rising k m r; own = lookup-erase k m r; other = λ j d. lookup-erase-other j k m r d }
     go false false = record { rising = r; own = refl; other = λ j d. refl }
 
+pub other-held : (c : Command) (b : List ℕ) (m : List Pair) (j : Key) → Rising (keys m) → ¬ (j ≡ keyOf c) → lookup j (pairsAfter c b m) ≡ lookup j m
+other-held c b m j r d = change c b m r .other j d
+
 -- ---- two changes: one argument for all that they can be
 
 module _ {j k : Key} {f g : Held → Held} {m a b c d : List Pair} where

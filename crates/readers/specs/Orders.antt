@@ -10,7 +10,7 @@ use Rattle.wire.specs.Entry.{readCommand, keyOf}
 use Rattle.memory.specs.Memory.{Memory, legal}
 use Rattle.commands.specs.Command.{Outcome}
 use Rattle.room.specs.declared.polls.Room.{Room}
-use Rattle.module.specs.History.{Call, formatting, commanding, polling, succeeded}
+use Rattle.module.specs.History.{Call, formatting, commanding, polling, succeeded, status}
 use Rattle.farms.specs.Sides.{Device, next}
 use Rattle.promises.specs.Histories.{writes}
 use Rattle.promises.specs.Requests.{Request, call, asked}
@@ -42,24 +42,36 @@ pub record Changes (n : ℕ) (k : Key) (x : Request) : Type 0 where
   pub key : keyOf (asked x) ≡ k
   pub writes : writes (asked x .opcode) ≡ true
 
+-- two of these, on different keys of one namespace
+pub record Apart (x y : Request) : Type 0 where
+  pub nsid : ℕ
+  pub key : Key
+  pub other : Key
+  pub differ : ¬ (key ≡ other)
+  pub one : Changes nsid key x
+  pub two : Changes nsid other y
+
 -- x and behind it y, both with number 0 and status 00h
 pub record Succeed (d : Device) (m : Memory) (x y : Call) : Type 0 where
   pub first : succeeded (d .does m x) ≡ true
   pub second : succeeded (d .does (next d m x) y) ≡ true
 
--- request [14]: of different keys, with success in either order
-pub record Rivals (d : Device) (m : Memory) (x y : Request) : Type 0 where
-  pub nsid : ℕ
-  pub key : Key
-  pub other : Key
-  pub apart : ¬ (key ≡ other)
-  pub one : Changes nsid key x
-  pub two : Changes nsid other y
-  pub forth : Succeed d m (call x) (call y)
-  pub back : Succeed d m (call y) (call x)
+-- x and behind it y, and no completion says 81h
+pub record HaveRoom (d : Device) (m : Memory) (x y : Call) : Type 0 where
+  pub first : ¬ (status (d .does m x) ≡ 0x81)
+  pub second : ¬ (status (d .does (next d m x) y) ≡ 0x81)
 
+-- request [14]: with success in either order
 abbrev pub Swaps : Device → Type 0
-Swaps d = (m : Memory) (x y : Request) → legal m ≡ true → Rivals d m x y → EitherOrder d m (call x) (call y)
+Swaps d =
+    (m : Memory) (x y : Request) → legal m ≡ true → Apart x y → Succeed d m (call x) (call y) → Succeed d m (call y) (call x)
+    → EitherOrder d m (call x) (call y)
+
+-- and more: by nothing but room can the orders be told apart
+abbrev pub RoomTells : Device → Type 0
+RoomTells d =
+    (m : Memory) (x y : Request) → legal m ≡ true → Apart x y → HaveRoom d m (call x) (call y) → HaveRoom d m (call y) (call x)
+    → EitherOrder d m (call x) (call y)
 
 -- ---- on different namespaces
 
@@ -69,6 +81,6 @@ named n (formatting l) = false
 named n (commanding p e c b) = eqb n (readCommand e .nsid)
 named n (polling k) = eqb n k
 
--- request [14]: whether they succeed or not, and whether memory holds i and j or not
+-- request [14]: whether they succeed or not, and whether there are namespaces i and j or not
 abbrev pub Commutes : Device → Type 0
 Commutes d = (m : Memory) (i j : ℕ) (x y : Call) → legal m ≡ true → ¬ (i ≡ j) → named i x ≡ true → named j y ≡ true → EitherOrder d m x y
