@@ -127,7 +127,7 @@ static void neighbours(void) {
 
 void any_orders(void) {
     uint32_t two = held->count - 1;
-    for (uint32_t i = 1 + below(4 + 16 * two); i > 0; i--) {
+    for (uint32_t i = 1 + below(4 + 44 * two); i > 0; i--) {
         take_turn();
         if (one_in(2)) rivals();
         else neighbours();
