@@ -60,7 +60,7 @@ keeps m x ok = holds-legal (told-call (namespacesOf m) m x (legal-holds m ok))
 
 -- ---- an instance: the same key stored in both namespaces, and a Store of an id that neither has
 
-abbrev both : Memory
+abbrev pub both : Memory
 both = begun (startTwo 7) .after
 
 abbrev one : Call

@@ -11,33 +11,25 @@ use Rattle.module.specs.History.{Call}
 use Rattle.farms.specs.Sides.{real, next, ready}
 use Rattle.farms.specs.Shared.{shared}
 use Rattle.farms.proofs.Examples.{start as startTwo, call as callTo}
-use Rattle.promises.specs.Histories.{begun}
-use Rattle.promises.specs.Requests.{call}
+use Rattle.promises.specs.Histories.{memoryAfter}
+use Rattle.promises.specs.Requests.{Request, call}
 use Rattle.promises.proofs.Examples.{onMap, onMemory, start, start-begun, A, B, store}
-use Rattle.readers.specs.Orders.{given, named, Apart, Succeed, Swaps, Commutes}
+use Rattle.readers.specs.Orders.{given, named, Succeed, Swaps, Commutes}
 use Rattle.readers.specs.Marks.{marks}
 use Rattle.readers.proofs.Answers.{statusIn}
 use Rattle.readers.proofs.Commuting.{legal-after, commutes}
-use Rattle.readers.proofs.Swapping.{swaps}
+use Rattle.readers.proofs.Swapping.{swaps, delete, kept, changes}
 
 -- ---- the mark
 
-abbrev blank : Memory
-blank = begun (start 7) .after
+-- B is stored and A deleted, where A is held
+abbrev holding : Memory
+holding = memoryAfter (start 7) kept
 
-changes : Apart (store A []) (store B [])
-unfolding onMap
-changes =
-    record {
-      nsid = 1;
-      key = A;
-      other = B;
-      differ = λ e. let z : _≡_ {A = ℕ} 0x41 0x42 = cc in omega arith;
-      one = record { nsid = refl; key = refl; writes = refl };
-      two = record { nsid = refl; key = refl; writes = refl };
-    }
+abbrev stores : Request
+stores = store B (9 ∷ [])
 
-met : Succeed marks blank (call (store A [])) (call (store B [])) × Succeed marks blank (call (store B [])) (call (store A []))
+met : Succeed marks holding (call stores) (call delete) × Succeed marks holding (call delete) (call stores)
 unfolding onMemory
 met = (record { first = refl; second = refl }, record { first = refl; second = refl })
 
@@ -45,8 +37,8 @@ met = (record { first = refl; second = refl }, record { first = refl; second = r
 abbrev mark : Memory → ℕ
 mark m = number (part 576 1 (m .directory))
 
-marked : (mark (next marks (next marks blank (call (store A []))) (call (store B []))) ≡ 0x42)
-    × (mark (next marks (next marks blank (call (store B []))) (call (store A []))) ≡ 0x41)
+marked : (mark (next marks (next marks holding (call stores)) (call delete)) ≡ 0x41)
+    × (mark (next marks (next marks holding (call delete)) (call stores)) ≡ 0x42)
 unfolding onMemory
 marked = (refl, refl)
 
@@ -54,8 +46,8 @@ pub marks-apart : Swaps real × ¬ Swaps marks
 marks-apart = (
   swaps,
   λ s.
-      let e = ap mark (s blank (store A []) (store B []) (legal-after (start 7) [] (start-begun 7)) changes (met .0) (met .1) .left) in
-      let z : _≡_ {A = ℕ} 0x42 0x41 = sym (marked .0) ∙ e ∙ marked .1 in
+      let e = ap mark (s holding stores delete (legal-after (start 7) kept (start-begun 7)) changes (met .0) (met .1) .left) in
+      let z : _≡_ {A = ℕ} 0x41 0x42 = sym (marked .0) ∙ e ∙ marked .1 in
       omega arith,
 )
 

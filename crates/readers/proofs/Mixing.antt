@@ -13,12 +13,11 @@ use Rattle.memory.specs.Memory.{Memory, legal}
 use Rattle.room.specs.Room.{room}
 use Rattle.module.specs.History.{Call, formatting, commanding, polling}
 use Rattle.farms.specs.Sides.{Device, real, next}
-use Rattle.promises.specs.Histories.{begun}
 use Rattle.promises.specs.Requests.{call}
 use Rattle.promises.proofs.Examples.{onMap, onMemory, startTwo, two-begun, A, store, storeTwo}
 use Rattle.readers.specs.Orders.{Given, returned, polled, given, named, Commutes}
 use Rattle.readers.specs.Mixing.{Mixed, ended, one, other, Only, goes, shown, Alike, Mixes, Keeps}
-use Rattle.readers.proofs.Commuting.{legal-after, commutes, keeps}
+use Rattle.readers.proofs.Commuting.{legal-after, commutes, keeps, both}
 
 -- a call names one farm
 one-name : (i j : ℕ) (x : Call) → ¬ (i ≡ j) → named i x ≡ true → named j x ≡ false
@@ -68,9 +67,6 @@ pub mixes : Mixes real
 mixes = any-mixes real keeps commutes
 
 -- ---- an instance: one farm stores and polls, the other stores the same key, in two mixings
-
-abbrev both : Memory
-both = begun (startTwo 7) .after
 
 abbrev ours : List Call
 ours = call (store A (5 ∷ [])) ∷ polling 1 ∷ []

@@ -103,13 +103,13 @@ swapped-after a xs ys x y ok p f g =
 
 -- ---- an instance: B stored and A deleted, where A is held
 
-abbrev delete : Request
+abbrev pub delete : Request
 delete = request 0x10 A 0 []
 
-abbrev kept : List Call
+abbrev pub kept : List Call
 kept = call (store A (5 ∷ 6 ∷ [])) ∷ []
 
-changes : Apart (store B (9 ∷ [])) delete
+pub changes : Apart (store B (9 ∷ [])) delete
 unfolding onMap
 changes =
     record {
