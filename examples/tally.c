@@ -1,5 +1,6 @@
-/* A morning in the yard: each click of the pliers stores a tag's record; in the evening the host walks the store, prints the tally and
- * shows how full the cabinet is. Host and cabinet are one program here, so an entry goes from kv_build straight to kv_command. */
+/* A morning in the yard: the host asks what the cabinet has room for; each click of the pliers stores a tag's record; in the evening
+ * the host walks the store, prints the tally and shows how full the cabinet is. Host and cabinet are one program here, so an entry
+ * goes from kv_build straight to kv_command. */
 #include "kv.h"
 
 int printf(const char *, ...);
@@ -17,6 +18,20 @@ static const char *const morning[][2] = {
     {"ES-0417-0113", "ear, left"},  {"ES-0417-0088", "left; dosed"},    {"FR-22-7", "bought in"},
     {"FR-22-70", "bought in"},      {"ES-0417-01", "click in the air"}, {"ES-0417-0120", "ear, left"},
 };
+
+/* asked once, before the first click: the page says which format the namespace has, and what each format allows */
+static int limits(void) {
+    static uint8_t page[4096];
+    uint32_t number = kv_identify(page, sizeof page, NAMESPACE, directory, sizeof directory, values, sizeof values);
+    struct kv_identity own = kv_read_identify(page, sizeof page, 0), most = kv_read_identify(page, sizeof page, own.index);
+    if (number != KV_DONE || own.number != KV_DONE || most.number != KV_DONE) {
+        printf("limits refused: numbers %u, %u, %u\n", number, own.number, most.number);
+        return 0;
+    }
+    printf("format %u, one of %u: at most %u tags of %u bytes and records of %u, %llu bytes in all\n", own.index, own.formats,
+           most.maxkeys, most.keymax, most.valuemax, (unsigned long long)own.size);
+    return 1;
+}
 
 /* one command from its entry to its completion */
 static struct kv_completion ask(uint8_t opcode, const void *key, size_t len, uint32_t amount) {
@@ -83,6 +98,7 @@ static int bar(uint32_t tags) {
 int main(void) {
     uint32_t count;
     if (kv_format(FORMAT, NAMESPACE, SIZE, directory, sizeof directory, values, sizeof values) != KV_DONE) return 1;
+    if (!limits()) return 1;
     for (size_t i = 0; i < sizeof morning / sizeof *morning; i++) {
         size_t n = strlen(morning[i][1]);
         memcpy(data, morning[i][1], n);

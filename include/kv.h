@@ -28,6 +28,7 @@ enum {
     KV_NAMESPACE_ID = 4,      /* namespace id 0 or FFFFFFFFh */
     KV_SIZE = 5,              /* size outside 1 to 65,536, or two that come to more */
     KV_SLICE_LENGTH = 6,      /* directory or value slice shorter than formats and sizes need */
+    KV_BYTES_LENGTH = 14,     /* Identify page not 4,096 bytes, or fields not 512 */
     KV_ILLEGAL = 18,          /* store memory not legal */
     KV_EQUAL_IDS = 19,        /* one id for both namespaces */
     KV_NOT_HELD = 23          /* no namespace of the memory has this id */
@@ -61,6 +62,11 @@ uint32_t kv_format(uint32_t index, uint32_t id, uint64_t size, uint8_t *director
 uint32_t kv_format_two(uint32_t index1, uint32_t id1, uint64_t size1, uint32_t index2, uint32_t id2, uint64_t size2,
                        uint8_t *directory, size_t directory_len, uint8_t *values, size_t values_len);
 
+/* Formats the two slices for one namespace from the 512 bytes of fields by which a host has one created: bytes 0-7 are the size, bits 3:0 of
+ * byte 31 the format's index, and no other byte is read. Number 14, then 4, 5, 6 as of kv_format, tried in that order. */
+uint32_t kv_format_fields(const uint8_t *fields, size_t fields_len, uint32_t id, uint8_t *directory, size_t directory_len,
+                          uint8_t *values, size_t values_len);
+
 /* One command: reads the 64-byte entry, acts on the namespace that it names, writes the 16-byte completion. `data` is the command's data
  * buffer: Store reads its first bytes, Retrieve and List write them. In the entry the key bytes behind the key length must be zero.
  * Numbers 1, 2, tried in that order. Of `phase` the lowest bit counts. */
@@ -78,10 +84,15 @@ struct kv_room {
  * Numbers 18, 23, tried in that order. */
 struct kv_room kv_used(uint32_t id, const uint8_t *directory, size_t directory_len, const uint8_t *values, size_t values_len);
 
-/* ---- The host's side, in libhost.a (`rt staticlib host`). It needs no store: an entry is built, a completion and a List page are
- * read. Each call gives a number as above. */
+/* Writes the 4,096-byte Identify page of namespace `id` (CNS 05h, CSI 01h): its size and used room, its format index, and the limits of the
+ * sixteen formats. Reads the store as a command does. Numbers 14, 18, 23, tried in that order. */
+uint32_t kv_identify(uint8_t *page, size_t page_len, uint32_t id, const uint8_t *directory, size_t directory_len,
+                     const uint8_t *values, size_t values_len);
 
-/* Numbers of the host's side, with 1 and 2. */
+/* ---- The host's side, in libhost.a (`rt staticlib host`). It needs no store: an entry is built, a completion, a List page and an Identify
+ * page are read. Each call gives a number as above. */
+
+/* Numbers of the host's side, with 1, 2 and 14. */
 enum {
     KV_PAGE_LENGTH = 7,     /* page shorter than 4 bytes */
     KV_PAGE_ENTRY = 8,      /* page entry runs past the end */
@@ -117,6 +128,16 @@ struct kv_page_key {
  * Bytes after the last entry are ignored. Number 7 first; then the first entry that is wrong decides: 8 if its length is cut off, 9,
  * 8 if its key or padding is, 10, 11. */
 struct kv_page_key kv_read_page(const uint8_t *page, size_t page_len, uint32_t ordinal);
+
+/* What an Identify page says: how many formats it has, the index, size and used room of its namespace, and the limits of one format. */
+struct kv_identity {
+    uint32_t number, formats, index, keymax, valuemax, maxkeys;
+    uint64_t size, used;
+};
+
+/* Reads a 4,096-byte Identify page, ours or another device's: nothing but its length is checked. The limits are those of format `ordinal`,
+ * counted from 0; all three are 0 where the page says fewer formats, or where the page ends before that descriptor does. Number 14. */
+struct kv_identity kv_read_identify(const uint8_t *page, size_t page_len, uint32_t ordinal);
 
 #ifdef __cplusplus
 }

@@ -1,4 +1,4 @@
-/* One call on a store, for counting its instructions: a command, with Again a Store over a held key, or kv_used. `driver CALL N HOW` writes
+/* One call on a store, for counting its instructions: a command, with Again a Store over a held key, or kv_used, or kv_identify. `driver CALL N HOW` writes
    a store of n keys in each namespace to standard output; `driver CALL N HOW give` reads it and makes the call once, to the last namespace,
    and `driver CALL N HOW skip` does all but that. */
 #include "kv.h"
@@ -22,11 +22,13 @@ static const struct how {
 static uint8_t directory[64 + 32 * 2048], values[65536], data[PAGE], completion[16], entry[64];
 
 static int poll;          /* the call is kv_used */
+static int identify;      /* the call is kv_identify */
 static uint32_t farm = 1; /* the namespace that it names */
 
-/* whether the entry's command, or the poll, succeeds */
+/* whether the entry's command, or the poll, or the page succeeds */
 __attribute__((noinline)) int measured(void) {
     if (poll) return kv_used(farm, directory, sizeof directory, values, sizeof values).number == 0;
+    if (identify) return kv_identify(data, sizeof data, farm, directory, sizeof directory, values, sizeof values) == 0;
     uint32_t number
         = kv_command(entry, 64, completion, 16, data, sizeof data, directory, sizeof directory, values, sizeof values, 1, 1, 1);
     return number == 0 && (completion[14] | completion[15] << 8) >> 1 == 0;
@@ -72,5 +74,6 @@ int main(int argc, char **argv) {
     farm = how->namespaces;
     prepare(opcode, n / 2, opcode == KV_LIST ? PAGE : how->value);
     poll = argv[1][0] == 'U';
+    identify = argv[1][0] == 'I';
     return argv[4][0] == 'g' && !measured();
 }

@@ -170,3 +170,24 @@ struct kv_room kv_used(uint32_t id, const uint8_t *directory, size_t directory_l
     if (!(s = named(both, n, id))) return (struct kv_room){ 23, 0, 0 };
     return (struct kv_room){ 0, s->h.used, s->h.count };
 }
+
+uint32_t kv_identify(uint8_t *page, size_t page_len, uint32_t id, const uint8_t *directory, size_t directory_len, const uint8_t *values,
+                     size_t values_len) {
+    struct store both[2], *s;
+    if (page_len != 4096) return 14;
+    int n = check(both, directory, directory_len, values, values_len);
+    if (n == 0) return 18;
+    if (!(s = named(both, n, id))) return 23;
+    memset(page, 0, 4096);
+    save32(page, s->h.size);
+    save32(page + 16, s->h.used);
+    page[25] = 15;
+    page[29] = s->h.index;
+    for (uint32_t i = 0; i < 16; i++) {
+        uint8_t *d = page + 72 + 16 * i;
+        save16(d, 4 * (i % 4 + 1));
+        save32(d + 4, 64u << (2 * (i / 4)));
+        save32(d + 8, max_keys(i));
+    }
+    return 0;
+}

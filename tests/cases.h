@@ -32,5 +32,6 @@ int list(const char *key, int len, uint32_t size); /* into a data buffer of byte
 int room_is(uint32_t number, uint32_t used, uint32_t keys);
 
 void two_farms(void); /* cases_two.c */
+void identity(void);  /* cases_identify.c */
 
 #endif

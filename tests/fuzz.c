@@ -4,7 +4,7 @@
 
 unsigned long long strtoull(const char *, char **, int);
 
-static uint64_t wanted = 180000;
+static uint64_t wanted = 240000;
 
 static uint32_t most_keys(void) {
     uint32_t most = 0;
@@ -13,12 +13,13 @@ static uint32_t most_keys(void) {
 }
 
 static void history(uint64_t ordinal) {
-    full = one_in(20);
+    full = (ordinal < 16 && ordinal % 5 == 0) || one_in(20); /* once each number of keys in any case, which chance may leave out */
     rubbish(real.directory, model.directory, sizeof real.directory);
     rubbish(real.values, model.values, sizeof real.values);
     intact = 0;
     while (one_in(2)) bad_format();
     first_format(ordinal);
+    if (one_in(2)) any_identify(directory_len, values_len);
     uint32_t max = most_keys();
     salt = next();
     letters = full || one_in(4) ? 256 : 1 + below(4);
@@ -30,6 +31,7 @@ static void history(uint64_t ordinal) {
         if (one_in(full ? 100 : 30)) damaged();
         else if (one_in(full ? 2000 : 100)) any_walk();
         else if (one_in(200)) bad_format();
+        else if (one_in(80)) any_identify(directory_len, values_len);
         else if (!full && one_in(300)) any_format();
         else if (one_in(40)) {
             rubbish(real.completion, model.completion, sizeof real.completion);
@@ -42,6 +44,7 @@ static void history(uint64_t ordinal) {
     if (intact && one_in(4)) any_again();
     if (intact && !full) any_orders();
     if (intact) any_walk();
+    if (intact && one_in(2)) any_identify(directory_len, values_len);
     if (!full && one_in(4)) any_farms();
 }
 
@@ -54,6 +57,7 @@ int main(int argc, char **argv) {
     missing += report_formats();
     missing += report_commands();
     missing += report_damage();
+    missing += report_identify();
     missing += report_again();
     missing += report_farms();
     missing += report_orders();

@@ -38,9 +38,14 @@ extern struct model_store *held, *seen; /* `held` is what the history leaves, `s
 extern int intact;                      /* the memory is the image of `held` */
 extern size_t directory_len, values_len;
 extern uint64_t calls;                  /* so far */
+extern const char *doing;               /* the call that is made */
 
 _Noreturn void differ(const char *what, uint64_t got, uint64_t expected);
 void number(const char *what, uint64_t got, uint64_t expected);
+void bytes(const char *what, const uint8_t *got, const uint8_t *expected, size_t n);
+uint32_t numbered(uint32_t got, uint32_t expected); /* the number of a call, counted */
+uint32_t called(uint32_t got, uint32_t expected);   /* that, and all of both sides */
+uint8_t *lent(const uint8_t *p, size_t n);          /* a slice to lend: of no bytes every other time a null pointer */
 uint32_t get16(const uint8_t *p);
 
 /* Each makes a call on both sides and ends the program where they differ. `command` returns the status, or 100h where a number was
@@ -49,7 +54,7 @@ struct asked {
     uint32_t index, id;
     uint64_t size;
 };
-uint32_t format(const struct asked *a, uint32_t n, size_t dlen, size_t vlen); /* one namespace or two */
+uint32_t format(const struct asked *a, uint32_t n, size_t dlen, size_t vlen); /* one namespace, now and then by fields, or two */
 uint32_t command(size_t entry_len, size_t completion_len, size_t room, size_t dlen, size_t vlen);
 struct kv_room poll(uint32_t id, size_t dlen, size_t vlen);
 void any_poll(size_t dlen, size_t vlen);
@@ -78,6 +83,13 @@ void first_format(uint64_t ordinal); /* a history's: of each index in its turn, 
 void any_format(void);               /* over what the memory holds, into the same slices; refused where they are too short */
 void bad_format(void);               /* one that is refused */
 int report_formats(void);            /* as `report_calls` */
+
+/* ---- fuzz_identify.c */
+
+/* what `format` of one namespace does, by fields with rubbish in every bit that is not read; the module is lent `d` and `v` */
+uint32_t format_fields(const struct asked *a, uint8_t *d, size_t dlen, uint8_t *v, size_t vlen);
+void any_identify(size_t dlen, size_t vlen); /* an Identify page of an id by chance, read again; then another device's */
+int report_identify(void);                   /* as `report_calls` */
 
 /* ---- fuzz_pages.c */
 

@@ -17,7 +17,7 @@ static uint64_t statuses[256], numbers[NUMBERS], nulls, polls;
  * a poll and in a command; and Retrieves of a key that the other namespace holds too, with another value */
 static uint64_t kept[2][2], unheld[2][2], unnamed[2][2], twins;
 static uint32_t fullest[4], longest; /* the most keys held, by q, and the most keys on a page */
-static const char *doing = "";
+const char *doing = "";
 
 /* ---- comparing */
 
@@ -39,7 +39,7 @@ void number(const char *what, uint64_t got, uint64_t expected) {
     if (got != expected) differ(what, got, expected);
 }
 
-static void bytes(const char *what, const uint8_t *got, const uint8_t *expected, size_t n) {
+void bytes(const char *what, const uint8_t *got, const uint8_t *expected, size_t n) {
     if (memcmp(got, expected, n) == 0) return;
     size_t i = 0;
     while (got[i] == expected[i]) i++;
@@ -47,14 +47,14 @@ static void bytes(const char *what, const uint8_t *got, const uint8_t *expected,
     differ(what, got[i], expected[i]);
 }
 
-static uint32_t numbered(uint32_t got, uint32_t expected) {
+uint32_t numbered(uint32_t got, uint32_t expected) {
     number("number", got, expected);
     if (got >= NUMBERS) differ("number above all", got, expected);
     numbers[got]++;
     return got;
 }
 
-static uint32_t called(uint32_t got, uint32_t expected) {
+uint32_t called(uint32_t got, uint32_t expected) {
     numbered(got, expected);
     bytes("directory", real.directory, model.directory, sizeof real.directory);
     bytes("values", real.values, model.values, sizeof real.values);
@@ -68,8 +68,7 @@ uint32_t get16(const uint8_t *p) { return p[0] | p[1] << 8; }
 
 /* ---- the calls */
 
-/* what a slice of n bytes is lent as: with no bytes every other time as a null pointer */
-static uint8_t *lent(const uint8_t *p, size_t n) {
+uint8_t *lent(const uint8_t *p, size_t n) {
     if (n > 0 || one_in(2)) return (uint8_t *)p;
     nulls++;
     return 0;
@@ -77,6 +76,7 @@ static uint8_t *lent(const uint8_t *p, size_t n) {
 
 static uint32_t formatted(const struct asked *a, uint32_t n, size_t dlen, size_t vlen) {
     uint8_t *d = lent(real.directory, dlen), *v = lent(real.values, vlen), *e = model.directory, *w = model.values;
+    if (n == 1 && a->index < 16 && one_in(2)) return format_fields(a, d, dlen, v, vlen);
     if (n == 1) {
         uint32_t got = kv_format(a->index, a->id, a->size, d, dlen, v, vlen);
         return called(got, model_format(a->index, a->id, a->size, e, dlen, w, vlen));
@@ -228,7 +228,7 @@ int report_calls(void) {
     }
     printf("\nnumbers:");
     for (int i = 0; i < NUMBERS; i++) {
-        if ((i > 13 && i < 18) || (i > 19 && i < 23)) continue; /* numbers that no call has */
+        if ((i > 14 && i < 18) || (i > 19 && i < 23)) continue; /* numbers that no call has */
         printf(" %d %llu", i, (unsigned long long)numbers[i]);
         missing += numbers[i] == 0;
     }

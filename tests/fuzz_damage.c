@@ -180,13 +180,15 @@ void damaged(void) {
     int fit = model_read(seen, model.directory, directory_len, model.values, values_len);
     (fit ? legal : illegal)[held->count - 1]++;
     if (one_in(2)) any_poll(directory_len, values_len);
+    if (one_in(2)) any_identify(directory_len, values_len);
     for (uint32_t i = 1 + below(4); i > 0; i--) {
         take_turn();
         any_command();
     }
     if (one_in(10)) bad_format();
     if (!full && one_in(10)) any_format();
-    if (!intact && one_in(2) && model_read(seen, model.directory, directory_len, model.values, values_len)) go_on();
+    int goes_on = !full && one_in(2); /* what is to be filled keeps its size */
+    if (!intact && goes_on && model_read(seen, model.directory, directory_len, model.values, values_len)) go_on();
     if (!intact) put_back(&saved, length);
 }
 

@@ -1,5 +1,5 @@
-/* The host's side from C: the entry of each opcode, a completion, List pages, every number that refuses, slices without a byte,
- * and where the fields of the two structs lie. */
+/* The host's side from C: the entry of each opcode, a completion, List pages, Identify pages, every number that refuses, slices
+ * without a byte, and where the fields of the three structs lie. */
 #include "kv.h"
 
 #define AT(type, field, at) _Static_assert(offsetof(struct type, field) == (at), #type "." #field)
@@ -18,8 +18,18 @@ AT(kv_page_key, number, 0);
 AT(kv_page_key, count, 4);
 AT(kv_page_key, len, 8);
 AT(kv_page_key, key, 12);
+_Static_assert(sizeof(struct kv_identity) == 40 && _Alignof(struct kv_identity) == 8, "kv_identity");
+AT(kv_identity, number, 0);
+AT(kv_identity, formats, 4);
+AT(kv_identity, index, 8);
+AT(kv_identity, keymax, 12);
+AT(kv_identity, valuemax, 16);
+AT(kv_identity, maxkeys, 20);
+AT(kv_identity, size, 24);
+AT(kv_identity, used, 32);
 
 int printf(const char *, ...);
+void *memcpy(void *, const void *, size_t);
 void *memset(void *, int, size_t);
 int memcmp(const void *, const void *, size_t);
 
@@ -116,6 +126,51 @@ static void pages(void) {
     bad("a lower key", "\2\0\0\0\2\0AB\1\0A\0", 12, KV_PAGE_ORDER);
 }
 
+static uint8_t identity[4097];
+
+/* what the page has for its namespace, whatever the ordinal, then the limits of that ordinal */
+static void limits(const char *what, uint32_t ordinal, uint32_t formats, uint32_t keymax, uint32_t valuemax, uint32_t maxkeys) {
+    struct kv_identity r = kv_read_identify(identity, 4096, ordinal);
+    expect(what, r.number == KV_DONE && r.formats == formats && r.index == 5);
+    expect(what, r.size == 0x0807060504030201 && r.used == 0x1817161514131211);
+    expect(what, r.keymax == keymax && r.valuemax == valuemax && r.maxkeys == maxkeys);
+}
+
+static void no_identity(const char *what, const uint8_t *page, size_t n) {
+    struct kv_identity r = kv_read_identify(page, n, 0);
+    expect(what, r.number == KV_BYTES_LENGTH && r.formats == 0 && r.index == 0 && r.size == 0 && r.used == 0);
+    expect(what, r.keymax == 0 && r.valuemax == 0 && r.maxkeys == 0);
+}
+
+/* another device's: 256 formats, of which 251 have room, something other than zero in all that is not read; then fewer formats */
+static void identities(void) {
+    memset(identity, 0xee, sizeof identity);
+    memcpy(identity, "\x01\x02\x03\x04\x05\x06\x07\x08", 8);
+    memcpy(identity + 16, "\x11\x12\x13\x14\x15\x16\x17\x18", 8);
+    identity[25] = 255;
+    identity[29] = 0xe5;
+    memcpy(identity + 72, "\x21\x22\xee\xee\x23\x24\x25\x26\x27\x28\x29\x2a", 12);
+    memcpy(identity + 4072, "\x31\x32\xee\xee\x33\x34\x35\x36\x37\x38\x39\x3a", 12);
+    limits("format 0", 0, 256, 0x2221, 0x26252423, 0x2a292827);
+    limits("format 1", 1, 256, 0xeeee, 0xeeeeeeee, 0xeeeeeeee);
+    limits("format 250, the last with room", 250, 256, 0x3231, 0x36353433, 0x3a393837);
+    limits("format 251, cut by the page's end", 251, 256, 0, 0, 0);
+    limits("format 255", 255, 256, 0, 0, 0);
+    limits("format 256 of 256", 256, 256, 0, 0, 0);
+    limits("format FFFFFFFFh", 0xffffffff, 256, 0, 0, 0);
+    limits("format 10000000h, sixteen times which are 0 in 32 bits", 0x10000000, 256, 0, 0, 0);
+    identity[25] = 250;
+    limits("format 250 of 251", 250, 251, 0x3231, 0x36353433, 0x3a393837);
+    identity[25] = 249;
+    limits("format 250 of 250", 250, 250, 0, 0, 0);
+    identity[25] = 0;
+    limits("format 0 of one", 0, 1, 0x2221, 0x26252423, 0x2a292827);
+    limits("format 1 of one", 1, 1, 0, 0, 0);
+    no_identity("Identify page of 4,095 bytes", identity, 4095);
+    no_identity("Identify page of 4,097 bytes", identity, 4097);
+    no_identity("Identify page of no bytes", identity, 0);
+}
+
 /* a slice of no bytes may come with a null pointer */
 static void empty(void) {
     expect("no key", build(64, KV_LIST, 0, 0) == KV_DONE && entry[44] == 0 && all(entry + 8, 32, 0) && all(entry + 46, 18, 0));
@@ -124,6 +179,7 @@ static void empty(void) {
     refused("no entry", KV_ENTRY_LENGTH, kv_build(0, 0, KV_LIST, 1, 1, (const uint8_t *)"A", 1, 4, 0));
     refused("no entry and no key", KV_ENTRY_LENGTH, kv_build(0, 0, KV_LIST, 1, 1, 0, 0, 4, 0));
     bad("no page", 0, 0, KV_PAGE_LENGTH);
+    no_identity("no Identify page", 0, 0);
     struct kv_completion r = kv_read_completion(0, 0);
     expect("no completion", r.number == KV_COMPLETION_LENGTH && r.dword0 == 0 && r.head == 0 && r.queue == 0 && r.cid == 0);
     expect("no completion: the word", r.phase == 0 && r.status == 0 && r.type == 0);
@@ -133,6 +189,7 @@ int main(void) {
     builder();
     completions();
     pages();
+    identities();
     empty();
     printf("host from C: %d passed, %d failed\n", passed, failed);
     return failed != 0;

@@ -51,13 +51,18 @@ uint32_t model_format(uint32_t index, uint32_t id, uint64_t size, uint8_t *direc
                       size_t values_len);
 uint32_t model_format_two(uint32_t index1, uint32_t id1, uint64_t size1, uint32_t index2, uint32_t id2, uint64_t size2,
                           uint8_t *directory, size_t directory_len, uint8_t *values, size_t values_len);
+uint32_t model_format_fields(const uint8_t *fields, size_t fields_len, uint32_t id, uint8_t *directory, size_t directory_len,
+                             uint8_t *values, size_t values_len);
 uint32_t model_command(struct model_store *m, const uint8_t *entry, size_t entry_len, uint8_t *completion, size_t completion_len,
                        uint8_t *data, size_t data_len, uint8_t *directory, uint8_t *values, uint16_t head, uint16_t queue,
                        uint16_t phase);
 uint32_t model_build(uint8_t *entry, size_t entry_len, uint8_t opcode, uint16_t cid, uint32_t nsid, const uint8_t *key,
                      size_t key_len, uint32_t dword10, uint8_t options);
 struct kv_room model_room(uint32_t id, const uint8_t *directory, size_t directory_len, const uint8_t *values, size_t values_len);
+uint32_t model_identify(uint8_t *page, size_t page_len, uint32_t id, const uint8_t *directory, size_t directory_len,
+                        const uint8_t *values, size_t values_len);
 struct kv_completion model_read_completion(const uint8_t *completion, size_t completion_len);
 struct kv_page_key model_read_page(const uint8_t *page, size_t page_len, uint32_t ordinal);
+struct kv_identity model_read_identify(const uint8_t *page, size_t page_len, uint32_t ordinal);
 
 #endif

@@ -1,29 +1,10 @@
 /* The deepest stack of each exported call, arguments and return address with it. Stores full to the last byte, of the most keys and of the
  * longest values, with one namespace and with two: every command on them, carried out and refused by every step, and on damaged memory. It
- * fails above what the smallest board has, and where a List from the start leaves a key that it listed on the stack. */
-#include "stack_stores.h"
+ * fails above what the smallest board has for a call, and where a List from the start leaves a key that it listed on the stack. */
+#include "stack_rows.h"
 
-int printf(const char *, ...);
-
-enum { BOARD = 2048 };
-
-static size_t deepest;          /* of the calls since the last row */
-static uint32_t numbers, lists; /* numbers that occurred, a bit each; Lists whose stack was searched */
-static uint8_t statuses[256];   /* those that occurred */
-static int failed;
-
-static void measure(void (*call)(void)) {
-    run_on_paint(call);
-    if (depth > deepest) deepest = depth;
-    numbers |= 1u << number;
-    lent = whole;
-}
-
-static void row(const char *call, const char *what) {
-    printf("| `%s`%s | %zu |\n", call, what, deepest);
-    if (deepest > BOARD) failed = printf("FAILED: %zu bytes of stack, the board has %d\n", deepest, BOARD);
-    deepest = 0;
-}
+static uint32_t lists;        /* whose stack was searched */
+static uint8_t statuses[256]; /* those that occurred */
 
 /* what is to be noticed, in a call of its own: a key that goes through as many bytes of stack as the board has */
 static void copy_between(void) {
@@ -138,18 +119,59 @@ static void formats_two(void) {
     row("kv_format_two", "");
 }
 
-/* of each namespace, and of one that there is not */
-static void polls(void) {
+/* every format by its fields, then each fault alone, the upper bytes of a size among them */
+static void formats_by_fields(void) {
+    static const struct asked faults[] = {{0, 0, 1}, {0, 1, 0}, {0, 1, 1ull << 32 | 1}};
+    memset(fields, 0xff, FIELDS);
+    first = (struct asked){0, 1, SIZE};
+    for (; first.index < 16; first.index++) measure(format_fields);
+    first.index = 0;
+    lent.values = SIZE - 1;
+    measure(format_fields);
+    lent.fields = FIELDS - 1;
+    measure(format_fields);
+    for (size_t i = 0; i < sizeof faults / sizeof *faults; i++) {
+        first = faults[i];
+        measure(format_fields);
+    }
+    row_within("kv_format_fields", "", HALF);
+}
+
+/* a call on the full stores, of each namespace and of one that there is not */
+static void on_full_stores(void (*call)(void)) {
     for (int k = 0; k < STORES; k++) {
         fill(stores + k, 0);
         for (farm = 1; farm <= stores[k].namespaces + 1; farm++) {
             put_back();
-            measure(used);
-            for (uint32_t i = 0; damage(stores + k, i); i++) measure(used);
+            measure(call);
+            for (uint32_t i = 0; damage(stores + k, i); i++) measure(call);
         }
     }
     farm = 1;
-    row("kv_used", "");
+}
+
+static void identities(void) {
+    on_full_stores(identify);
+    lent.page = PAGE - 1;
+    measure(identify);
+    row_within("kv_identify", "", HALF);
+}
+
+/* pages of sixteen formats and of 256, of which 251 have room */
+static void identities_read(void) {
+    static const uint32_t ordinals[] = {0, 15, 16, 250, 251, 255, 256, 0xffffffff};
+    fill(stores, 0);
+    identify();
+    for (int foreign = 0; foreign < 2; foreign++) {
+        for (size_t i = 0; i < sizeof ordinals / sizeof *ordinals; i++) {
+            ordinal = ordinals[i];
+            measure(read_identify);
+        }
+        memset(page, 0xff, PAGE);
+    }
+    lent.page = PAGE - 1;
+    measure(read_identify);
+    row_within("kv_read_identify", "", HALF);
 }
 
 static void builds(void) {
@@ -202,14 +224,18 @@ int main(void) {
     printf("| Call | Deepest stack, bytes |\n|---|---|\n");
     formats();
     formats_two();
+    formats_by_fields();
     commands();
-    polls();
+    on_full_stores(used);
+    row("kv_used", "");
+    identities();
     builds();
     completions();
     pages();
+    identities_read();
     for (size_t i = 0; i < sizeof expected; i++)
         if (!statuses[expected[i]]) failed = printf("FAILED: status %02x did not occur\n", expected[i]);
-    if (numbers != (0x3fffu | 1u << KV_ILLEGAL | 1u << KV_EQUAL_IDS | 1u << KV_NOT_HELD))
+    if (numbers != (0x7fffu | 1u << KV_ILLEGAL | 1u << KV_EQUAL_IDS | 1u << KV_NOT_HELD))
         failed = printf("FAILED: of the numbers these occurred: %x\n", numbers);
     if (lists == 0) failed = printf("FAILED: no List had its stack searched\n");
     return failed != 0;

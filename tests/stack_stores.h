@@ -7,7 +7,7 @@
 
 void *memcpy(void *, const void *, size_t);
 
-enum { SIZE = 65536, DIRECTORY = 64 + 32 * 2048, PAGE = 4096, KEY = 16, TAIL = 12, STORES = 4 };
+enum { SIZE = 65536, DIRECTORY = 64 + 32 * 2048, PAGE = 4096, FIELDS = 512, KEY = 16, TAIL = 12, STORES = 4 };
 
 static const char tail[TAIL + 1] = "EARTAG-CODES"; /* every key ends in it; nothing else has these bytes */
 
@@ -17,16 +17,16 @@ static const struct store {
 } stores[STORES] = {{1, 3, 1024, 64 - KEY}, {1, 15, 16, 4096 - KEY}, {2, 3, 1024, 32 - KEY}, {2, 15, 16, 2048 - KEY}};
 
 /* what is lent to a call, and what it takes and gives beside that */
-static uint8_t directory[DIRECTORY], values[SIZE], data[PAGE], entry[64], completion[16], page[PAGE];
+static uint8_t directory[DIRECTORY], values[SIZE], data[PAGE], entry[64], completion[16], page[PAGE], fields[FIELDS];
 static struct lengths {
-    size_t entry, completion, data, directory, values, page, key;
+    size_t entry, completion, data, directory, values, page, key, fields;
 } lent;
-static const struct lengths whole = {64, 16, PAGE, DIRECTORY, SIZE, PAGE, KEY};
+static const struct lengths whole = {64, 16, PAGE, DIRECTORY, SIZE, PAGE, KEY, FIELDS};
 static struct asked {
     uint32_t index, id;
     uint64_t size;
 } first, second;
-static uint32_t farm = 1, ordinal, number; /* the namespace that commands and polls name, the key asked for of a page, the number given */
+static uint32_t farm = 1, ordinal, number; /* the namespace named, the key or format asked for of a page, the number given */
 static uint8_t opcode;
 
 static void format(void) { number = kv_format(first.index, first.id, first.size, directory, lent.directory, values, lent.values); }
@@ -34,14 +34,21 @@ static void format_two(void) {
     number = kv_format_two(first.index, first.id, first.size, second.index, second.id, second.size, directory, lent.directory, values,
                            lent.values);
 }
+static void format_fields(void) {
+    memcpy(fields, &first.size, 8);
+    fields[31] = 0xf0 | first.index;
+    number = kv_format_fields(fields, lent.fields, first.id, directory, lent.directory, values, lent.values);
+}
 static void command(void) {
     number = kv_command(entry, lent.entry, completion, lent.completion, data, lent.data, directory, lent.directory, values,
                         lent.values, 1, 1, 1);
 }
 static void used(void) { number = kv_used(farm, directory, lent.directory, values, lent.values).number; }
+static void identify(void) { number = kv_identify(page, lent.page, farm, directory, lent.directory, values, lent.values); }
 static void build(void) { number = kv_build(entry, lent.entry, opcode, 1, 1, (const uint8_t *)"0123456789abcdefg", lent.key, 4, 0); }
 static void read_completion(void) { number = kv_read_completion(completion, lent.completion).number; }
 static void read_page(void) { number = kv_read_page(page, lent.page, ordinal).number; }
+static void read_identify(void) { number = kv_read_identify(page, lent.page, ordinal).number; }
 
 /* a command on key i of a namespace, and a data buffer for it */
 static void prepare(int code, const struct store *s, uint32_t i) {

@@ -9,7 +9,7 @@ use lib.ListN.{length, take, drop, length-append, length-take}
 use lib.Seq.{drop-at, take-append-seam}
 use borrow.Author.Tests.{le-ltb, le-leb}
 use Rattle.octets.specs.Octets.{part, number, bytes, put}
-use Rattle.octets.specs.Keys.{Key}
+use Rattle.keys.specs.Keys.{Key}
 use Rattle.octets.proofs.PartLaws.{put-front, length-put}
 use Rattle.octets.proofs.NumberLaws.{number-bytes}
 use Rattle.wire.specs.declared.entries.Command.{Command}

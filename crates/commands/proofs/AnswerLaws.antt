@@ -7,13 +7,13 @@ use native.Mathlib.Omega.{arith}
 use lib.ListN.{length, take, length-take}
 use lib.Dec.{leb, eqb}
 use borrow.Author.Tests.{leb-false, eqb-true}
-use Rattle.octets.specs.declared.keys.Order.{Order}
-use Rattle.octets.specs.declared.keys.Order.the-variants.{Less, Equal, Greater}
-use Rattle.octets.specs.Keys.{Key, order}
+use Rattle.keys.specs.declared.orders.Order.{Order}
+use Rattle.keys.specs.declared.orders.Order.the-variants.{Less, Equal, Greater}
+use Rattle.keys.specs.Keys.{Key, order}
 use Rattle.octets.proofs.TestLaws.{known, holds, fails}
 use Rattle.wire.specs.declared.entries.Command.{Command}
 use Rattle.wire.specs.Entry.{keyOf, isStore, isRetrieve, isDelete}
-use Rattle.store.specs.Formats.{formatOf}
+use Rattle.table.specs.Formats.{formatOf}
 use Rattle.store.specs.Maps.{Pair, insert, present, valueOf}
 use Rattle.store.specs.Namespace.{Namespace, withPairs}
 use Rattle.store.proofs.MapLaws.{insert-rising}

@@ -4,7 +4,7 @@ use mathlib.Core.List.{List, [], _∷_}
 use Prim.Native.Nat.{ℕ}
 use lib.ListN.{length, replicate}
 use Rattle.octets.specs.Octets.{part, put, number, zeros, filled}
-use Rattle.octets.specs.Keys.{Key}
+use Rattle.keys.specs.Keys.{Key}
 use Rattle.wire.specs.Entry.{readCommand, writeCommand}
 use Rattle.wire.specs.Completion.{readCompletion, writeCompletion}
 use Rattle.wire.specs.Page.{pageEntry, page}
@@ -16,6 +16,7 @@ use Rattle.rules.specs.Steps.{steps, statusOf}
 use Rattle.formatting.specs.Formatting.{half, formatSteps, format}
 use Rattle.commands.specs.Answer.{answer}
 use Rattle.commands.specs.Command.{post, respond, serve, command}
+use Rattle.maps.specs.Describe.{describe}
 use Rattle.room.specs.Room.{room}
 use Rattle.module.specs.History.{Call}
 use Rattle.farms.specs.Sides.{real, Ask, sends, Start, begun}
@@ -29,7 +30,7 @@ onMap = tt
 -- and this is all besides that memory does
 unfoldable pub onMemory : Unit {0}
 unfolding onMap format formatSteps writeCompletion within recordOf recordsPart valuesPart allWithin halfOf headOf directoryOf valuesOf labelIn
-    namespaceAt namespacesOf legal respond serve command room
+    namespaceAt namespacesOf legal respond serve command describe room
 onMemory = tt
 
 -- ids 1 and 2, both of format 15, with these sizes; bytes that are all 7, one more in each slice than is needed
@@ -52,4 +53,4 @@ abbrev pub ask : ℕ → ℕ → Key → List ℕ → Ask
 ask op n k b = sends (entry op n k (length b)) (zeros 16) b
 
 abbrev pub call : ℕ → ℕ → Key → List ℕ → Call
-call op n k b = callOf n (post 0 0 0) (ask op n k b)
+call op n k b = callOf (post 0 0 0) (ask op n k b)

@@ -13,8 +13,8 @@ use Rattle.memory.specs.Namespaces.{at}
 use Rattle.memory.specs.Memory.{Memory}
 use Rattle.formatting.specs.Formatting.{half}
 use Rattle.commands.specs.Command.{Post, post}
-use Rattle.module.specs.History.{one, formatting, polling, run, formats}
-use Rattle.farms.specs.Sides.{real, next, Ask, sends, polls, asks, own, Seen, answered, polled, shows}
+use Rattle.module.specs.History.{one, polling, idOf, filled, formatting, asking, run, formats}
+use Rattle.farms.specs.Sides.{real, next, Ask, sends, poses, asks, own, Seen, answered, learnt, shows}
 use Rattle.farms.specs.Sides.{Start, farms, ready, sees, unformatted, Follows}
 use Rattle.farms.specs.Alone.{alone}
 use Rattle.farms.specs.Hosts.{Host, Names, HostOf, Turn, mine, theirs, Elsewhere, callOf, made, hosted, turns, chosen}
@@ -22,9 +22,9 @@ use Rattle.farms.proofs.Stands.{Stands, left, stands-next, shows-alone}
 use Rattle.farms.proofs.Isolation.{ready-stands, isolated}
 use Rattle.farms.proofs.Examples.{onMap, onMemory, start, A, ask, call}
 
-asks-own : (n : ℕ) (p : Post) (x : Ask) → Names n x → asks n (callOf n p x) ≡ x ∷ []
+asks-own : (n : ℕ) (p : Post) (x : Ask) → Names n x → asks n (callOf p x) ≡ x ∷ []
 asks-own n p (sends e c b) o = rw (eq-eqb n (readCommand e .nsid) o)
-asks-own n p polls o = rw (eq-eqb n n refl)
+asks-own n p (poses q) o = rw (eq-eqb n (idOf q) o)
 
 module _ (n : ℕ) (h : Host) (o : HostOf n h) where
   -- from memory in which the farm stands
@@ -32,7 +32,7 @@ module _ (n : ℕ) (h : Host) (o : HostOf n h) where
       → unformatted real m (made real n h vs m ts) ≡ true → own n (made real n h vs m ts) ≡ chosen h vs s (turns ts)
   chosen-own vs s m [] t d u = refl
   chosen-own vs s m (mine p ∷ ts) t d u =
-      let x = callOf n p (h vs) in
+      let x = callOf p (h vs) in
       let q = both (not (formats x (run m x))) (unformatted real (next real m x) (made real n h (shows real n m x ++ vs) (next real m x) ts)) u in
       let r = chosen-own (shows real n m x ++ vs) (left s (asks n x)) (next real m x) ts (stands-next n s m t x (q .0)) d (q .1) in
       ap (λ ys. asks n x ++ ys) r
@@ -56,18 +56,18 @@ abbrev host : Host
 host [] = ask 0x01 1 A (replicate 8 5)
 host (answered k st w b ∷ []) = ask 0x06 1 [] b
 host (answered k st w b ∷ v ∷ vs) = ask 0x01 1 A b
-host (polled r ∷ vs) = polls
+host (learnt r ∷ vs) = poses (polling 1)
 
 host-of : HostOf 1 host
 unfolding onMap
 host-of [] = refl
 host-of (answered k st w b ∷ []) = refl
 host-of (answered k st w b ∷ v ∷ vs) = refl
-host-of (polled r ∷ vs) = tt
+host-of (learnt r ∷ vs) = refl
 
 abbrev between : List Turn
 between =
-    mine (post 1 0 1) ∷ theirs (call 0x01 2 A (9 ∷ [])) ∷ mine (post 3 0 1) ∷ theirs (polling 2) ∷ theirs (formatting (one (half 16 1 64)))
+    mine (post 1 0 1) ∷ theirs (call 0x01 2 A (9 ∷ [])) ∷ mine (post 3 0 1) ∷ theirs (asking (polling 2)) ∷ theirs (formatting (one (half 16 1 64)))
     ∷ theirs (call 0x10 2 A []) ∷ mine (post 5 0 1) ∷ []
 
 elsewhere : Elsewhere 1 between
@@ -84,7 +84,7 @@ written = 1 ∷ 0 ∷ 0 ∷ 0 ∷ 1 ∷ 0 ∷ 0x41 ∷ 0 ∷ []
 shown : sees real 1 (start 64 64) (hosted real 1 host (start 64 64) between)
     ≡ record {
       shown = answered 0 0x00 0 (replicate 8 5) ∷ answered 0 0x00 0 written ∷ answered 0 0x00 0 written ∷ [];
-      room = record { number = 0; used = 9; keys = 1 };
+      room = filled (record { number = 0; used = 9; keys = 1 });
     }
 unfolding onMap
 shown = host-isolated 1 host (start 64 64) between host-of elsewhere follows

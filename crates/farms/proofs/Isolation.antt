@@ -16,16 +16,15 @@ use Rattle.memory.proofs.LimitLaws.{apart-two}
 use Rattle.memory.proofs.ImageLaws.{Holds}
 use Rattle.rules.proofs.StepLaws.{never-06h as no-06h}
 use Rattle.formatting.specs.Formatting.{half, format, formatSteps}
-use Rattle.formatting.proofs.FormatLaws.{format-holds}
 use Rattle.commands.specs.Command.{Post, post}
-use Rattle.module.specs.History.{one, two, halves, Call, formatting, commanding, polling, run, leaves, status, formats}
-use Rattle.module.proofs.HistoryLaws.{few, call-status, told-calls}
-use Rattle.farms.specs.Sides.{real, next, Ask, sends, asks, own, answered, polled, before, side}
+use Rattle.module.specs.History.{one, two, polling, filled, Call, formatting, commanding, asking, run, leaves, status, formats}
+use Rattle.module.proofs.HistoryLaws.{begin-holds, call-status, told-calls}
+use Rattle.farms.specs.Sides.{real, next, Ask, sends, asks, own, answered, learnt, before, side}
 use Rattle.farms.specs.Sides.{Start, blank, farms, begun, ready, sees, unformatted, Follows, Isolates}
 use Rattle.farms.specs.Alone.{meets, after, alone}
 use Rattle.farms.specs.Hosts.{callOf}
 use Rattle.farms.proofs.Examples.{onMap, start, start-begun, A, entry, ask, call}
-use Rattle.farms.proofs.Stands.{Stands, left, stands-next, room-alone, shows-alone}
+use Rattle.farms.proofs.Stands.{Stands, left, stands-next, told-alone, shows-alone}
 
 -- ---- from memory in which the farm stands
 
@@ -34,7 +33,7 @@ alone-behind s [] ys = refl
 alone-behind s (x ∷ xs) ys = ap (before (meets s x ∷ [])) (alone-behind (after s x) xs ys)
 
 side-alone : (n : ℕ) (s : Namespace) (m : Memory) (xs : List Call) → Stands n s m → unformatted real m xs ≡ true → side real n m xs ≡ alone s (own n xs)
-side-alone n s m [] t u = ap (λ r. record { shown = []; room = r }) (room-alone n s m t)
+side-alone n s m [] t u = ap (λ r. record { shown = []; room = r }) (told-alone n s m t (polling n) refl)
 side-alone n s m (x ∷ xs) t u =
     let q = both (not (formats x (run m x))) (unformatted real (next real m x) xs) u in
     let r = side-alone n (left s (asks n x)) (next real m x) xs (stands-next n s m t x (q .0)) (q .1) in
@@ -43,7 +42,7 @@ side-alone n s m (x ∷ xs) t u =
 -- ---- from a formatting on
 
 ready-holds : (a : Start) → begun real a .number ≡ 0 → Holds (farms a) (ready real a)
-ready-holds a ok = let l = two (a .first) (a .second) in format-holds (halves l) (a .lent) (few l) ok
+ready-holds a ok = begin-holds (two (a .first) (a .second)) (a .lent) ok
 
 pub ready-stands : (n : ℕ) (a : Start) → begun real a .number ≡ 0 → held n (farms a) ≡ true → Stands n (at n (farms a)) (ready real a)
 ready-stands n a ok q = record { all = farms a; image = ready-holds a ok; there = q; is = refl }
@@ -84,8 +83,8 @@ vain = sends (entry 0x10 1 A 0) [] []
 
 abbrev calls : List Call
 calls =
-    formatting (one (half 16 1 64)) ∷ call 0x01 1 A (5 ∷ 6 ∷ []) ∷ call 0x01 2 A (9 ∷ []) ∷ callOf 1 (post 0 0 0) vain
-    ∷ call 0x02 1 A (1 ∷ 2 ∷ 3 ∷ []) ∷ call 0x01 9 A (4 ∷ []) ∷ polling 1 ∷ call 0x10 2 A [] ∷ call 0x06 1 [] (replicate 9 0xff) ∷ polling 2
+    formatting (one (half 16 1 64)) ∷ call 0x01 1 A (5 ∷ 6 ∷ []) ∷ call 0x01 2 A (9 ∷ []) ∷ callOf (post 0 0 0) vain
+    ∷ call 0x02 1 A (1 ∷ 2 ∷ 3 ∷ []) ∷ call 0x01 9 A (4 ∷ []) ∷ asking (polling 1) ∷ call 0x10 2 A [] ∷ call 0x06 1 [] (replicate 9 0xff) ∷ asking (polling 2)
     ∷ call 0x02 2 A (1 ∷ []) ∷ call 0x01 1 A (replicate 64 0) ∷ []
 
 refused : unformatted real (ready real (start 64 64)) calls ≡ true
@@ -96,17 +95,17 @@ first : sees real 1 (start 64 64) calls
     ≡ record {
       shown =
           answered 0 0x00 0 (5 ∷ 6 ∷ []) ∷ answered 2 0 0 [] ∷ answered 0 0x00 2 (5 ∷ 6 ∷ 3 ∷ [])
-          ∷ polled (record { number = 0; used = 3; keys = 1 }) ∷ answered 0 0x00 0 (1 ∷ 0 ∷ 0 ∷ 0 ∷ 1 ∷ 0 ∷ 0x41 ∷ 0 ∷ 0xff ∷ [])
+          ∷ learnt (filled (record { number = 0; used = 3; keys = 1 })) ∷ answered 0 0x00 0 (1 ∷ 0 ∷ 0 ∷ 0 ∷ 1 ∷ 0 ∷ 0x41 ∷ 0 ∷ 0xff ∷ [])
           ∷ answered 0 0x81 0 (replicate 64 0) ∷ [];
-      room = record { number = 0; used = 3; keys = 1 };
+      room = filled (record { number = 0; used = 3; keys = 1 });
     }
 unfolding onMap
 first = each-isolated (start 64 64) calls start-begun refused .0
 
 second : sees real 2 (start 64 64) calls
     ≡ record {
-      shown = answered 0 0x00 0 (9 ∷ []) ∷ answered 0 0x00 0 [] ∷ polled (record { number = 0; used = 0; keys = 0 }) ∷ answered 0 0x87 0 (1 ∷ []) ∷ [];
-      room = record { number = 0; used = 0; keys = 0 };
+      shown = answered 0 0x00 0 (9 ∷ []) ∷ answered 0 0x00 0 [] ∷ learnt (filled (record { number = 0; used = 0; keys = 0 })) ∷ answered 0 0x87 0 (1 ∷ []) ∷ [];
+      room = filled (record { number = 0; used = 0; keys = 0 });
     }
 unfolding onMap
 second = each-isolated (start 64 64) calls start-begun refused .1
@@ -123,11 +122,11 @@ moved = record { first = half 12 3 32; second = half 15 1 64; lent = memory (rep
 
 abbrev others : List Call
 others =
-    call 0x01 3 A [] ∷ later (ask 0x01 1 A (5 ∷ 6 ∷ [])) ∷ later vain ∷ later (ask 0x02 1 A (1 ∷ 2 ∷ 3 ∷ [])) ∷ polling 1 ∷ polling 3
+    call 0x01 3 A [] ∷ later (ask 0x01 1 A (5 ∷ 6 ∷ [])) ∷ later vain ∷ later (ask 0x02 1 A (1 ∷ 2 ∷ 3 ∷ [])) ∷ asking (polling 1) ∷ asking (polling 3)
     ∷ later (ask 0x06 1 [] (replicate 9 0xff)) ∷ call 0x14 3 A [] ∷ later (ask 0x01 1 A (replicate 64 0)) ∷ []
   where
     later : Ask → Call
-    later = callOf 1 (post 7 0 1)
+    later = callOf (post 7 0 1)
 
 moved-follows : Follows real 1 moved others
 unfolding format formatSteps

@@ -6,7 +6,7 @@ use Prim.Native.Nat.{ℕ}
 use native.Mathlib.Omega.{arith}
 use Rattle.formatting.specs.Formatting.{format, formatSteps}
 use Rattle.module.specs.History.{Call}
-use Rattle.farms.specs.Sides.{real, own, Seen, answered, polled, Side, sees, Follows, Isolates}
+use Rattle.farms.specs.Sides.{real, own, Seen, answered, learnt, Side, sees, Follows, Isolates}
 use Rattle.farms.specs.Shared.{shared}
 use Rattle.farms.proofs.Isolation.{two-histories}
 use Rattle.farms.proofs.Examples.{onMap, onMemory, start, A, call}
@@ -33,7 +33,7 @@ firstStatus t = go (t .shown)
     go : List Seen → ℕ
     go [] = 0
     go (answered k st w b ∷ vs) = st
-    go (polled r ∷ vs) = 0
+    go (learnt r ∷ vs) = 0
 
 statuses : (firstStatus (sees shared 1 (start 64 2) single) ≡ 0x00) × (firstStatus (sees shared 1 (start 64 2) behind) ≡ 0x81)
     × (firstStatus (sees real 1 (start 64 2) behind) ≡ 0x00)

@@ -15,17 +15,16 @@ use Rattle.memory.specs.Namespaces.{held, at, with}
 use Rattle.memory.specs.Memory.{Memory}
 use Rattle.memory.proofs.NameLaws.{at-id, at-same, at-other, at-within}
 use Rattle.memory.proofs.ImageLaws.{Holds}
-use Rattle.formatting.specs.Formatting.{format}
-use Rattle.formatting.proofs.FormatLaws.{format-refused}
 use Rattle.commands.specs.Answer.{answer}
 use Rattle.commands.specs.Command.{Post}
 use Rattle.commands.proofs.AnswerLaws.{answer-status, dword0-small}
 use Rattle.commands.proofs.CommandLaws.{entry-key, serve-holds, command-0, command-1, command-2}
-use Rattle.room.specs.Room.{filledBy, room}
-use Rattle.room.proofs.PollLaws.{room-held}
-use Rattle.module.specs.History.{Layout, halves, Call, formatting, commanding, polling, lend, run, formats}
-use Rattle.module.proofs.HistoryLaws.{call-number, call-status, call-dword0, call-buffer}
-use Rattle.farms.specs.Sides.{real, Ask, sends, asks, answered, polled, seenOf, shows}
+use Rattle.maps.specs.declared.describes.Described.{Described}
+use Rattle.maps.specs.Describe.{described, describe}
+use Rattle.maps.proofs.DescribeLaws.{describe-held}
+use Rattle.module.specs.History.{Layout, begin, Question, idOf, ask, tell, Call, formatting, commanding, asking, lend, run, formats}
+use Rattle.module.proofs.HistoryLaws.{begin-refused, ask-is, call-number, call-status, call-dword0, call-buffer}
+use Rattle.farms.specs.Sides.{real, Ask, sends, asks, answered, learnt, seenOf, shows}
 use Rattle.farms.specs.Alone.{refusal, meets, after, alone}
 
 -- ---- a command, on the namespace that it names
@@ -102,9 +101,8 @@ module _ (n : ℕ) (s : Namespace) (m : Memory) (t : Stands n s m) where
   abbrev ss : List Namespace
   ss = t .all
 
-  refused-next : (l : Layout) → eqb (format (halves l) m .number) 0 ≡ false → Stands n s (format (halves l) m .after)
-  unfolding format
-  refused-next l f = rw (format-refused (halves l) m f) t
+  refused-next : (l : Layout) → eqb (begin l m .number) 0 ≡ false → Stands n s (begin l m .after)
+  refused-next l f = rw (begin-refused l m f) t
 
   -- an entry that names n
   module _ (e : List ℕ) (f : eqb n (readCommand e .nsid) ≡ true) where
@@ -128,11 +126,13 @@ module _ (n : ℕ) (s : Namespace) (m : Memory) (t : Stands n s m) where
             let o = own-changed ss e c b (named-held e f) ∙ ap (λ r. after r (sends e c b)) (named-is e f) in
             rw f (renewed n s _ m _ t (changed ss e c b) h (ap (λ j. at j (changed ss e c b)) (named e f) ∙ o) (after-id s e c b))
       ]
-  stands-next (polling k) q = elim (known (eqb n k)) [ holds f ↦ rw f t | fails f ↦ rw f t ]
+  stands-next (asking k) q = elim (known (eqb n (idOf k))) [ holds f ↦ rw f t | fails f ↦ rw f t ]
 
-  -- what a poll gives
-  pub room-alone : room n m ≡ filledBy (s .pairs)
-  room-alone = room-held n (t .image) ∙ rw (t .there, t .is)
+  -- what a question gives
+  pub told-alone : (q : Question) → n ≡ idOf q → ask m q ≡ tell (described s) q
+  told-alone q e =
+      let d : describe n m ≡ described s = describe-held n (t .image) ∙ rw (t .there, t .is) in
+      ask-is m q ∙ ap (λ k. tell (describe k m) q) (sym e) ∙ ap (λ (x : Described). tell x q) d
 
   -- what a call shows
   pub shows-alone : (x : Call) → shows real n m x ≡ alone s (asks n x) .shown
@@ -144,8 +144,8 @@ module _ (n : ℕ) (s : Namespace) (m : Memory) (t : Stands n s m) where
             let v = command-done ss m p e c b (t .image) .1 (named-held e f) in
             rw f (ap (λ v. v ∷ []) (v ∙ ap (λ r. meets r (sends e c b)) (named-is e f)))
       ]
-  shows-alone (polling k) =
-      elim (known (eqb n k)) [
+  shows-alone (asking q) =
+      elim (known (eqb n (idOf q))) [
         | fails f ↦ rw f
-        | holds f ↦ rw f (ap (λ v. polled v ∷ []) (ap (λ j. room j m) (sym (eqb-true n k f)) ∙ room-alone))
+        | holds f ↦ rw f (ap (λ v. learnt v ∷ []) (told-alone q (eqb-true n (idOf q) f)))
       ]

@@ -8,8 +8,10 @@ use Rattle.wire.specs.Entry.{readCommand, notEntry}
 use Rattle.wire.specs.Completion.{readCompletion, notCompletion}
 use Rattle.store.specs.Namespace.{Namespace, withPairs}
 use Rattle.commands.specs.Answer.{answer}
+use Rattle.maps.specs.Describe.{described}
 use Rattle.room.specs.Room.{filledBy}
-use Rattle.farms.specs.Sides.{Ask, sends, polls, Seen, answered, polled, Side, before}
+use Rattle.module.specs.History.{filled, tell}
+use Rattle.farms.specs.Sides.{Ask, sends, poses, Seen, answered, learnt, Side, before}
 
 -- numbers 1 and 2
 abbrev pub refusal : List ℕ → List ℕ → ℕ
@@ -22,12 +24,12 @@ meets s (sends e c b) =
     let a = answer true s (readCommand e) b in
     let l = readCompletion c in
     cond (eqb k 0) (answered 0 (a .status) (a .dword0) (a .buffer)) (answered k (l .status) (l .dword0) b)
-meets s polls = polled (filledBy (s .pairs))
+meets s (poses q) = learnt (tell (described s) q)
 
 abbrev pub after : Namespace → Ask → Namespace
 after s (sends e c b) = cond (eqb (refusal e c) 0) (withPairs s (answer true s (readCommand e) b .pairs)) s
-after s polls = s
+after s (poses q) = s
 
 abbrev pub alone : Namespace → List Ask → Side
-alone s [] = record { shown = []; room = filledBy (s .pairs) }
+alone s [] = record { shown = []; room = filled (filledBy (s .pairs)) }
 alone s (x ∷ xs) = before (meets s x ∷ []) (alone (after s x) xs)

@@ -7,8 +7,8 @@ use Rattle.wire.specs.Entry.{readCommand}
 use Rattle.store.specs.Namespace.{Namespace}
 use Rattle.memory.specs.Memory.{Memory}
 use Rattle.commands.specs.Command.{Post}
-use Rattle.module.specs.History.{Call, commanding, polling}
-use Rattle.farms.specs.Sides.{Device, next, Ask, sends, polls, asks, Seen, shows, Start, ready}
+use Rattle.module.specs.History.{idOf, Call, commanding, asking}
+use Rattle.farms.specs.Sides.{Device, next, Ask, sends, poses, asks, Seen, shows, Start, ready}
 use Rattle.farms.specs.Alone.{meets, after}
 
 -- what it asks next; what it was shown stands with the latest first
@@ -18,7 +18,7 @@ Host = List Seen → Ask
 -- it names n and no other, whatever it was shown
 abbrev pub Names : ℕ → Ask → Type 0
 Names n (sends e c b) = n ≡ readCommand e .nsid
-Names n polls = Unit {0}
+Names n (poses q) = n ≡ idOf q
 
 abbrev pub HostOf : ℕ → Host → Type 0
 HostOf n h = (vs : List Seen) → Names n (h vs)
@@ -34,15 +34,15 @@ Elsewhere n [] = Unit {0}
 Elsewhere n (mine p ∷ ts) = Elsewhere n ts
 Elsewhere n (theirs x ∷ ts) = (asks n x ≡ []) × Elsewhere n ts
 
-abbrev pub callOf : ℕ → Post → Ask → Call
-callOf n p (sends e c b) = commanding p e c b
-callOf n p polls = polling n
+abbrev pub callOf : Post → Ask → Call
+callOf p (sends e c b) = commanding p e c b
+callOf p (poses q) = asking q
 
 -- the calls that come about, where it was shown vs before
 abbrev pub made : Device → ℕ → Host → List Seen → Memory → List Turn → List Call
 made d n h vs m [] = []
 made d n h vs m (mine p ∷ ts) =
-    let x = callOf n p (h vs) in
+    let x = callOf p (h vs) in
     x ∷ made d n h (shows d n m x ++ vs) (next d m x) ts
 made d n h vs m (theirs x ∷ ts) = x ∷ made d n h vs (next d m x) ts
 

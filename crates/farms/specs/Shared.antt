@@ -10,8 +10,7 @@ use Rattle.store.specs.Namespace.{Namespace}
 use Rattle.memory.specs.Namespaces.{slotsOf}
 use Rattle.memory.specs.Memory.{Memory, namespacesOf}
 use Rattle.commands.specs.Command.{completionOf, Outcome, outcome}
-use Rattle.room.specs.Room.{room}
-use Rattle.module.specs.History.{Call, formatting, commanding, polling, lend, run, succeeded}
+use Rattle.module.specs.History.{ask, Call, formatting, commanding, asking, lend, run, succeeded}
 use Rattle.farms.specs.Sides.{Device}
 
 -- no slot left, or no room
@@ -31,7 +30,7 @@ crowding m (commanding p e c b) =
     let o = run m (commanding p e c b) in
     let refused = outcome 0 (lend (completionOf p r 0x81 0) b m) in
     cond (isStore (r .opcode) && succeeded o && crowded (r .nsid) (namespacesOf m)) refused o
-crowding m (polling n) = run m (polling n)
+crowding m (asking q) = run m (asking q)
 
 abbrev pub shared : Device
-shared = record { does = crowding; room = room }
+shared = record { does = crowding; tells = ask }

@@ -13,34 +13,32 @@ use Rattle.memory.specs.Memory.{Memory}
 use Rattle.formatting.specs.declared.measures.Half.{Half}
 use Rattle.formatting.specs.Formatting.{blanks}
 use Rattle.commands.specs.Command.{Outcome}
-use Rattle.room.specs.declared.polls.Room.{Room}
-use Rattle.room.specs.Room.{room}
-use Rattle.module.specs.History.{two, Call, formatting, commanding, polling, run, status, formats}
+use Rattle.module.specs.History.{two, Question, polling, idOf, Told, ask, Call, formatting, commanding, asking, run, status, formats}
 
--- what a call does to memory, and what a poll of an id gives
+-- what a call does to memory, and what a question gives
 pub record Device : Type 0 where
   pub does : Memory → Call → Outcome
-  pub room : ℕ → Memory → Room
+  pub tells : Memory → Question → Told
 
 -- the module
 abbrev pub real : Device
-real = record { does = run; room = room }
+real = record { does = run; tells = ask }
 
 abbrev pub next : Device → Memory → Call → Memory
 next d m x = d .does m x .after .memory
 
 -- ---- the calls of one farm
 
--- what a farm gives for a call of its own: an entry, a completion and a data buffer; or it polls
+-- what a farm gives for a call of its own: an entry, a completion and a data buffer; or a question
 pub data Ask : Type 0 where
   sends : List ℕ → List ℕ → List ℕ → Ask
-  polls : Ask
+  poses : Question → Ask
 
 -- a call as n's own, if it names n; a formatting is of neither farm
 abbrev pub asks : ℕ → Call → List Ask
 asks n (formatting l) = []
 asks n (commanding p e c b) = cond (eqb n (readCommand e .nsid)) (sends e c b ∷ []) []
-asks n (polling k) = cond (eqb n k) (polls ∷ []) []
+asks n (asking q) = cond (eqb n (idOf q)) (poses q ∷ []) []
 
 abbrev pub own : ℕ → List Call → List Ask
 own n [] = []
@@ -48,10 +46,10 @@ own n (x ∷ xs) = asks n x ++ own n xs
 
 -- ---- what they show
 
--- a command: the number, and of the completion and the data buffer afterwards status, Dword 0 and all bytes; a poll: its whole answer
+-- a command: the number, and of the completion and the data buffer afterwards status, Dword 0 and all bytes; a question: its whole answer
 pub data Seen : Type 0 where
   answered : ℕ → ℕ → ℕ → List ℕ → Seen
-  polled : Room → Seen
+  learnt : Told → Seen
 
 abbrev pub seenOf : Outcome → Seen
 seenOf o = answered (o .number) (status o) (readCompletion (o .after .completion) .dword0) (o .after .buffer)
@@ -60,19 +58,19 @@ seenOf o = answered (o .number) (status o) (readCompletion (o .after .completion
 abbrev pub shows : Device → ℕ → Memory → Call → List Seen
 shows d n m (formatting l) = []
 shows d n m (commanding p e c b) = cond (eqb n (readCommand e .nsid)) (seenOf (d .does m (commanding p e c b)) ∷ []) []
-shows d n m (polling k) = cond (eqb n k) (polled (d .room k m) ∷ []) []
+shows d n m (asking q) = cond (eqb n (idOf q)) (learnt (d .tells m q) ∷ []) []
 
 -- what each call shows, in their order, and what a poll gives after them
 pub record Side : Type 0 where
   pub shown : List Seen
-  pub room : Room
+  pub room : Told
 
 abbrev pub before : List Seen → Side → Side
 before vs t = record { shown = vs ++ t .shown; room = t .room }
 
 -- all calls being made, the side of n
 abbrev pub side : Device → ℕ → Memory → List Call → Side
-side d n m [] = record { shown = []; room = d .room n m }
+side d n m [] = record { shown = []; room = d .tells m (polling n) }
 side d n m (x ∷ xs) = before (shows d n m x) (side d n (next d m x) xs)
 
 -- ---- from a formatting of two on

@@ -8,7 +8,7 @@ use native.Mathlib.Omega.{arith}
 use lib.ListN.{length}
 use lib.Seq.{take-append-seam}
 use borrow.Author.Tests.{eq-eqb, le-ltb, ltb-false}
-use Rattle.octets.specs.Keys.{Key}
+use Rattle.keys.specs.Keys.{Key}
 use Rattle.octets.proofs.TestLaws.{none-holds}
 use Rattle.octets.proofs.ZeroLaws.{length-filled, zeros-behind}
 use Rattle.wire.specs.Entry.{readCommand, writeCommand, known, isDelete, isExist, keyOf, stale}

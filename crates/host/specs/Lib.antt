@@ -1,3 +1,4 @@
 pub mod Build
 pub mod Reply
 pub mod PageKey
+pub mod Identity

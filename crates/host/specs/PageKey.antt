@@ -3,7 +3,7 @@ use mathlib.Core.List.{[]}
 use Prim.Native.Nat.{ℕ}
 use lib.ListN.{length, getD}
 use Rattle.octets.specs.Octets.{zeros, filled}
-use Rattle.octets.specs.Keys.{Key}
+use Rattle.keys.specs.Keys.{Key}
 use Rattle.wire.specs.Page.{Reading, refused, keys}
 use Rattle.host.specs.declared.pages.PageKey.{PageKey}
 

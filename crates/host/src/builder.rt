@@ -1,5 +1,5 @@
 // The builder of entries.
-use octets::keys::pad;
+use keys::orders::pad;
 use wire::entries;
 use wire::entries::Command;
 use wire::entries::DELETE;

@@ -1,12 +1,12 @@
 // The entries of a List page, read.
-use octets::keys;
-use octets::keys::Order;
+use keys::orders;
+use keys::orders::Order;
 use octets::runs;
 use octets::words;
 use wire::pages::PageEntry;
 use wire::pages::page_entry_size;
 ghost use mathlib.Core.Path.{_≡_};
-ghost use Rattle.octets.specs.Keys.{isLess};
+ghost use Rattle.keys.specs.Keys.{isLess};
 ghost use Rattle.wire.specs.Page.{firstEntry};
 
 fn refused(number: u32) -> PageEntry
@@ -44,7 +44,7 @@ pub fn read_page_entry(rest: &[u8], before: &[u8]) -> PageEntry
     if !runs::all_zero(&rest[end..size]) {
         return refused(10);
     }
-    if !is_less(keys::compare(before, &rest[2..end])) {
+    if !is_less(orders::compare(before, &rest[2..end])) {
         return refused(11);
     }
     PageEntry { number: 0, len: n }

@@ -1,6 +1,6 @@
 // The reader of List pages.
 use crate::entries::read_page_entry;
-use octets::keys::pad;
+use keys::orders::pad;
 use octets::words;
 use wire::pages::page_entry_size;
 ghost use mathlib.Core.Path.{_≡_};

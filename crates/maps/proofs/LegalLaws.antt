@@ -9,11 +9,11 @@ use borrow.Author.Tests.{eqb-true, eqb-false, ne-eqb}
 use lib.ListN.{length, length-append}
 use Rattle.octets.specs.Octets.{part}
 use Rattle.octets.proofs.TestLaws.{known, holds, fails}
-use Rattle.store.specs.Formats.{formatOf}
+use Rattle.table.specs.Formats.{formatOf}
 use Rattle.store.specs.Maps.{Pair, keys}
 use Rattle.store.specs.Namespace.{Namespace}
 use Rattle.store.specs.Records.{pairsIn}
-use Rattle.store.specs.Verbs.{Standing}
+use Rattle.store.specs.Slots.{Standing}
 use Rattle.store.proofs.NamespaceLaws.{Within as One}
 use Rattle.store.proofs.PartsLaws.{pairs-held, held-again}
 use Rattle.store.proofs.RankLaws.{keys-in}

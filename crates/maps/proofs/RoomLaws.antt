@@ -9,7 +9,7 @@ use Rattle.octets.proofs.TestLaws.{known, holds, fails}
 use Rattle.store.specs.declared.finds.Found.{Found}
 use Rattle.store.specs.Maps.{Pair, pair, keys, erase, present, valueOf, used, heldRoom}
 use Rattle.store.specs.Finds.{found, foundKey}
-use Rattle.store.specs.Verbs.{pairAt}
+use Rattle.store.specs.Slots.{pairAt}
 use Rattle.store.proofs.CountLaws.{erase-used}
 use Rattle.store.proofs.SlotLaws.{value-length-at}
 use Rattle.store.proofs.RankLaws.{rank-le, rank-held, length-keys, value-held, has-present}

@@ -4,7 +4,7 @@ use mathlib.Core.Bool.{true, cond}
 use mathlib.Core.List.{List, _∷_, _++_}
 use Prim.Native.Nat.{ℕ, _+_, _*_, _-_, _≤_, _<_}
 use lib.ListN.{length, take, drop}
-use Rattle.octets.specs.Keys.{Key}
+use Rattle.keys.specs.Keys.{Key}
 use Rattle.store.specs.declared.finds.Found.{Found}
 use Rattle.store.specs.Maps.{keys, insert}
 use Rattle.store.specs.Namespace.{Namespace, withPairs, within}

@@ -9,7 +9,7 @@ ghost use mathlib.Core.Path.{_≡_};
 ghost use Prim.Native.Nat.{_+_};
 ghost use lib.ListN.{length, take};
 ghost use Rattle.octets.specs.Octets.{put};
-ghost use Rattle.octets.specs.Keys.{Padded};
+ghost use Rattle.keys.specs.Keys.{Padded};
 ghost use Rattle.wire.specs.Page.{page, shown};
 ghost use Rattle.store.specs.Maps.{valueOf};
 ghost use Rattle.store.specs.Finds.{found, foundKey};

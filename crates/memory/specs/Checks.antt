@@ -7,8 +7,8 @@ use lib.ListN.{length}
 use Rattle.octets.specs.Octets.{part, allZero}
 use Rattle.octets.specs.Tests.{all, Row, row, firstOf}
 use Rattle.store.specs.declared.namespaces.Label.{Label}
-use Rattle.store.specs.declared.formats.Format.{Format}
-use Rattle.store.specs.Formats.{formatOf}
+use Rattle.table.specs.declared.formats.Format.{Format}
+use Rattle.table.specs.Formats.{formatOf}
 use Rattle.store.specs.Maps.{values, used}
 use Rattle.store.specs.Namespace.{Namespace, permitSteps}
 use Rattle.store.specs.Records.{pairsIn}

@@ -10,7 +10,7 @@ use lib.Dec.{eqb}
 use Rattle.octets.specs.Octets.{part, put, number, bytes, zeros, filled, same}
 use Rattle.octets.specs.Tests.{all}
 use Rattle.store.specs.declared.namespaces.Label.{Label}
-use Rattle.store.specs.Formats.{slots}
+use Rattle.table.specs.Formats.{slots}
 use Rattle.store.specs.Maps.{Pair, used}
 use Rattle.store.specs.Namespace.{Namespace}
 use Rattle.store.specs.Records.{recordsPart, valuesPart, pairsIn}

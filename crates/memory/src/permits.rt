@@ -1,6 +1,6 @@
 // What a half of the head may say: numbers 3 to 5.
-use store::formats::Format;
-use store::formats::format_at;
+use table::formats::Format;
+use table::formats::format_at;
 ghost use mathlib.Core.Path.{_≡_};
 ghost use Rattle.octets.specs.Tests.{firstOf};
 ghost use Rattle.memory.specs.Checks.{sizeRows, permitted};

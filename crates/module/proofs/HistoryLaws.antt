@@ -1,6 +1,6 @@
 -- A call on memory that is the image of namespaces leaves the image of what its answer tells, and nothing past the needed part changes
 -- unless it formats; so do any calls. Assumes nothing.
-use mathlib.Core.Path.{_≡_, refl, sym, ap}
+use mathlib.Core.Path.{_≡_, refl, sym, ap, _∙_}
 use mathlib.Core.Bool.{Bool, true, false, cond}
 use mathlib.Core.List.{List, [], _∷_}
 use Prim.Native.Nat.{ℕ, _^_, _<_}
@@ -21,13 +21,18 @@ use Rattle.memory.proofs.NameLaws.{with-same}
 use Rattle.memory.proofs.ImageLaws.{Holds}
 use Rattle.rules.specs.Steps.{statusOf}
 use Rattle.rules.proofs.StepLaws.{status-byte}
-use Rattle.formatting.specs.Formatting.{blanks, format}
+use Rattle.maps.specs.Describe.{describe}
+use Rattle.formatting.specs.Formatting.{blanks, Formatted, format}
 use Rattle.formatting.proofs.FormatLaws.{Few, blanks-within, format-holds, format-refused}
 use Rattle.commands.specs.Answer.{Answer, answer, pairsAfter}
 use Rattle.commands.specs.Command.{Post, Outcome, completionOf, serve}
 use Rattle.commands.proofs.AnswerLaws.{answer-status}
 use Rattle.commands.proofs.CommandLaws.{entry-key, serve-is, serve-holds, command-0, command-1, command-2, Kept, over-kept, serve-kept}
-use Rattle.module.specs.History.{Layout, one, two, halves, Call, formatting, commanding, polling, lend, run, leaves, told, stored}
+use Rattle.room.specs.Room.{room}
+use Rattle.identify.specs.Identify.{identify}
+use Rattle.identify.proofs.IdentifyLaws.{create-is, create-refused}
+use Rattle.module.specs.History.{Layout, one, two, fields, halves, begin, Question, polling, identifying, idOf, ask, tell}
+use Rattle.module.specs.History.{Call, formatting, commanding, asking, lend, run, leaves, told, stored}
 
 -- ---- a command that numbers 1 and 2 let pass
 
@@ -87,22 +92,51 @@ module _ (ss : List Namespace) (m : Memory) (p : Post) (e c b : List ℕ) (h : H
 
 -- ---- formatting
 
-pub few : (l : Layout) → Few (halves l)
+few : (l : Layout) → Few (halves l)
 few (one h) = record { one = omega arith; two = omega arith }
 few (two h k) = record { one = omega arith; two = omega arith }
+few (fields s id) = record { one = omega arith; two = omega arith }
+
+-- where it succeeds it is a formatting with the numbers that it is given
+pub begin-is : (l : Layout) (m : Memory) → begin l m .number ≡ 0 → begin l m ≡ format (halves l) m
+begin-is (one h) m e = refl
+begin-is (two h k) m e = refl
+begin-is (fields s id) m e = create-is s id m e
+
+-- else memory stays
+pub begin-refused : (l : Layout) (m : Memory) → eqb (begin l m .number) 0 ≡ false → begin l m .after ≡ m
+unfolding format
+begin-refused (one h) m e = format-refused (h ∷ []) m e
+begin-refused (two h k) m e = format-refused (h ∷ k ∷ []) m e
+begin-refused (fields s id) m e = create-refused s id m e
 
 module _ (l : Layout) (m : Memory) where
-  format-told : (ss : List Namespace) → Holds ss m → Holds (cond (eqb (format (halves l) m .number) 0) (blanks (halves l)) ss) (format (halves l) m .after)
-  unfolding format
-  format-told ss h = go (eqb (format (halves l) m .number) 0) refl
-    where
-      go : (z : Bool) → eqb (format (halves l) m .number) 0 ≡ z → Holds (cond z (blanks (halves l)) ss) (format (halves l) m .after)
-      go true e = format-holds (halves l) m (few l) (eqb-true _ _ e)
-      go false e = rw (format-refused (halves l) m e) h
+  pub begin-holds : begin l m .number ≡ 0 → Holds (blanks (halves l)) (begin l m .after)
+  begin-holds e =
+      let f = begin-is l m e in
+      rw f (format-holds (halves l) m (few l) (ap (λ (x : Formatted). x .number) (sym f) ∙ e))
 
-  pub format-kept : format (halves l) m .number ≡ 0 → Kept (blanks (halves l)) m (format (halves l) m .after)
+  begin-told : (ss : List Namespace) → Holds ss m → Holds (cond (eqb (begin l m .number) 0) (blanks (halves l)) ss) (begin l m .after)
+  begin-told ss h = go (eqb (begin l m .number) 0) refl
+    where
+      go : (z : Bool) → eqb (begin l m .number) 0 ≡ z → Holds (cond z (blanks (halves l)) ss) (begin l m .after)
+      go true e = begin-holds (eqb-true _ _ e)
+      go false e = rw (begin-refused l m e) h
+
+  pub begin-kept : begin l m .number ≡ 0 → Kept (blanks (halves l)) m (begin l m .after)
   unfolding format
-  format-kept e = rw e (over-kept (blanks (halves l)) m (blanks-within (halves l) (length (m .directory)) (length (m .values)) (few l) e))
+  begin-kept e =
+      let f = begin-is l m e in
+      let n = ap (λ (x : Formatted). x .number) (sym f) ∙ e in
+      rw (f, n) (over-kept (blanks (halves l)) m (blanks-within (halves l) (length (m .directory)) (length (m .values)) (few l) n))
+
+-- ---- a question
+
+-- it goes by what is told of the namespace that it names, and by nothing else of memory
+pub ask-is : (m : Memory) (q : Question) → ask m q ≡ tell (describe (idOf q) m) q
+unfolding room identify
+ask-is m (polling n) = refl
+ask-is m (identifying p n) = refl
 
 -- ---- any call
 
@@ -131,8 +165,8 @@ command-kept ss m p e c b h = told-command ss m p e c b h .1
 
 pub told-call : (ss : List Namespace) (m : Memory) (x : Call) → Holds ss m → Holds (told ss x (run m x)) (run m x .after .memory)
 told-call ss m (commanding p e c b) h = told-command ss m p e c b h .0
-told-call ss m (formatting l) h = format-told l m ss h
-told-call ss m (polling n) h = h
+told-call ss m (formatting l) h = begin-told l m ss h
+told-call ss m (asking q) h = h
 
 pub told-calls : (ss : List Namespace) (m : Memory) (xs : List Call) → Holds ss m → Holds (stored ss m xs) (leaves m xs)
 told-calls ss m [] h = h

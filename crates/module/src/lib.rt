@@ -3,6 +3,8 @@ use commands::commands::command;
 use formatting::formats::format;
 use formatting::formats::format_two;
 use formatting::measures::Half;
+use identify::creations::create;
+use identify::pages::identify;
 use room::polls::Room;
 use room::polls::used_room;
 ghost use mathlib.Core.Path.{_≡_};
@@ -11,6 +13,7 @@ ghost use Rattle.memory.specs.Memory.{memory};
 ghost use Rattle.formatting.specs.Formatting.{half, formatted, format};
 ghost use Rattle.commands.specs.Command.{post, lent, outcome, command};
 ghost use Rattle.room.specs.Room.{room};
+ghost use Rattle.identify.specs.Identify.{identified, identify, create};
 
 #[no_mangle]
 pub extern "C" fn kv_format(
@@ -56,6 +59,20 @@ pub extern "C" fn kv_format_two(
 }
 
 #[no_mangle]
+pub extern "C" fn kv_format_fields(
+    fields: &[u8],
+    id: u32,
+    directory: &mut [u8],
+    values: &mut [u8],
+) -> u32
+    ensures { λ r.
+        ⌜ formatted r (memory (now (directory .exit)) (now (values .exit)))
+        ≡ create (now (fields .entry)) id (memory (now (directory .entry)) (now (values .entry))) ⌝ }
+{
+    create(fields, id, directory, values)
+}
+
+#[no_mangle]
 pub extern "C" fn kv_command(
     entry: &[u8],
     completion: &mut [u8],
@@ -88,4 +105,12 @@ pub extern "C" fn kv_used(id: u32, directory: &[u8], values: &[u8]) -> Room
     ensures { λ r. ⌜ r ≡ room id (memory (now (directory .entry)) (now (values .entry))) ⌝ }
 {
     used_room(id, directory, values)
+}
+
+#[no_mangle]
+pub extern "C" fn kv_identify(page: &mut [u8], id: u32, directory: &[u8], values: &[u8]) -> u32
+    ensures { λ r.
+        ⌜ identified r (now (page .exit)) ≡ identify id (now (page .entry)) (memory (now (directory .entry)) (now (values .entry))) ⌝ }
+{
+    identify(page, id, directory, values)
 }

@@ -2,7 +2,4 @@
 pub mod PartLaws
 pub mod NumberLaws
 pub mod ZeroLaws
-pub mod OrderLaws
-pub mod WideLaws
-pub mod ClearLaws
 pub mod TestLaws

@@ -1,3 +1,2 @@
 pub mod Octets
-pub mod Keys
 pub mod Tests

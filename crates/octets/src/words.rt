@@ -1,4 +1,4 @@
-// Little-endian words of 1, 2 and 4 bytes, read and written at an index. The casts stand in functions of their own on single
+// Little-endian words of 1, 2 and 4 bytes, read and written at an index; words of 8 are only read. The casts stand in functions of their own on single
 // bytes, so that reading a slice asks for its indices alone.
 ghost use mathlib.Core.Path.{_≡_};
 ghost use mathlib.Core.List.{[], _∷_};
@@ -18,6 +18,12 @@ fn number32(a: u8, b: u8, c: u8, d: u8) -> u32
     a as u32 + 256 * (b as u32 + 256 * (c as u32 + 256 * (d as u32)))
 }
 
+fn number64(low: u32, high: u32) -> u64
+    ensures { λ r. ⌜ r ≡ low + 4294967296 * high ⌝ }
+{
+    low as u64 + 4294967296 * (high as u64)
+}
+
 pub fn read16(s: &[u8], at: usize) -> u16
     requires { ⌜ at + 2 ≤ length (now s) ⌝ }
     ensures { λ r. ⌜ r ≡ number (part at 2 (now (s .entry))) ⌝ }
@@ -30,6 +36,13 @@ pub fn read32(s: &[u8], at: usize) -> u32
     ensures { λ r. ⌜ r ≡ number (part at 4 (now (s .entry))) ⌝ }
 {
     number32(s[at], s[at + 1], s[at + 2], s[at + 3])
+}
+
+pub fn read64(s: &[u8], at: usize) -> u64
+    requires { ⌜ at + 8 ≤ length (now s) ⌝ }
+    ensures { λ r. ⌜ r ≡ number (part at 8 (now (s .entry))) ⌝ }
+{
+    number64(read32(s, at), read32(s, at + 4))
 }
 
 // A single byte too is a `put`, so that a run of writes has one law.

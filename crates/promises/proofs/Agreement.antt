@@ -8,7 +8,7 @@ use lib.ListN.{length, replicate, getD}
 use lib.Dec.{eqb}
 use borrow.Author.Tests.{eq-eqb, eqb-true}
 use Rattle.octets.specs.Octets.{put}
-use Rattle.octets.specs.Keys.{Key}
+use Rattle.keys.specs.Keys.{Key}
 use Rattle.octets.proofs.TestLaws.{known, holds, fails}
 use Rattle.octets.proofs.ZeroLaws.{length-filled}
 use Rattle.wire.specs.declared.entries.Command.{Command}

@@ -4,7 +4,7 @@ use mathlib.Core.List.{List, [], _∷_, _++_}
 use Prim.Native.Nat.{ℕ}
 use lib.ListN.{length, replicate}
 use Rattle.octets.specs.Octets.{part, put, number, zeros, filled}
-use Rattle.octets.specs.Keys.{Key}
+use Rattle.keys.specs.Keys.{Key}
 use Rattle.wire.specs.Entry.{readCommand, writeCommand}
 use Rattle.wire.specs.Completion.{readCompletion, writeCompletion}
 use Rattle.wire.specs.Page.{pageEntry, page, entrySteps, firstEntry, readPage}
@@ -16,7 +16,7 @@ use Rattle.rules.specs.Steps.{steps, statusOf}
 use Rattle.commands.specs.Answer.{answer}
 use Rattle.formatting.specs.Formatting.{half, formatSteps, format}
 use Rattle.commands.specs.Command.{post, respond, serve, command}
-use Rattle.module.specs.History.{one, two, Call, formatting, commanding, polling}
+use Rattle.module.specs.History.{one, two, polling, Call, formatting, commanding, asking}
 use Rattle.promises.specs.Histories.{Start, begun}
 use Rattle.promises.specs.Requests.{Request, call, refusal}
 
@@ -86,4 +86,4 @@ list k = request 0x06 k 44 (replicate 50 0xff)
 
 -- refused: by number 1, by number 3, and a Store by step j; and a poll
 abbrev pub vain : List Call
-vain = commanding (post 0 0 0) [] [] [] ∷ formatting (one (half 16 1 64)) ∷ polling 1 ∷ call (store B (replicate 64 0)) ∷ []
+vain = commanding (post 0 0 0) [] [] [] ∷ formatting (one (half 16 1 64)) ∷ asking (polling 1) ∷ call (store B (replicate 64 0)) ∷ []

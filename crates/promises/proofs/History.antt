@@ -18,10 +18,9 @@ use Rattle.memory.proofs.LimitLaws.{within-all}
 use Rattle.memory.proofs.NameLaws.{with-total}
 use Rattle.memory.proofs.ImageLaws.{Holds}
 use Rattle.formatting.specs.Formatting.{half, blanks, format}
-use Rattle.formatting.proofs.FormatLaws.{format-holds, format-refused}
 use Rattle.commands.proofs.CommandLaws.{Kept}
-use Rattle.module.specs.History.{one, halves, Call, formatting, commanding, polling, run, leaves, succeeded, told, stored, formats}
-use Rattle.module.proofs.HistoryLaws.{few, told-call, command-kept, format-kept}
+use Rattle.module.specs.History.{one, halves, begin, Call, formatting, commanding, asking, run, leaves, succeeded, told, stored, formats}
+use Rattle.module.proofs.HistoryLaws.{begin-refused, begin-holds, begin-kept, told-call, command-kept}
 use Rattle.wire.specs.Entry.{readCommand}
 use Rattle.promises.specs.Histories.{Start, begun, memoryAfter, storedAfter, Shows, SamePast, SameNeeded, AllPairs, never}
 use Rattle.promises.specs.Requests.{call}
@@ -46,17 +45,16 @@ told-total f false n ps ss e = refl
 -- a call that does not format leaves them and the formatting
 stays : (ss : List Namespace) (m : Memory) (x : Call) → Holds ss m → not (formats x (run m x)) ≡ true
     → Kept ss m (run m x .after .memory) × (total slotsOf (told ss x (run m x)) ≡ total slotsOf ss) × (total sizeOf (told ss x (run m x)) ≡ total sizeOf ss)
-unfolding format
 stays ss m (commanding p e c b) h n =
     let z = succeeded (run m (commanding p e c b)) in (
       command-kept ss m p e c b h,
       told-total slotsOf z (readCommand e .nsid) _ ss (λ s qs. refl),
       told-total sizeOf z (readCommand e .nsid) _ ss (λ s qs. refl),
     )
-stays ss m (polling n) h q = (record { directory = refl; values = refl }, refl, refl)
+stays ss m (asking k) h q = (record { directory = refl; values = refl }, refl, refl)
 stays ss m (formatting l) h q =
-    let e : eqb (format (halves l) m .number) 0 ≡ false = not-true _ q in
-    rw (format-refused (halves l) m e, e) (record { directory = refl; values = refl }, refl, refl)
+    let e : eqb (begin l m .number) 0 ≡ false = not-true _ q in
+    rw (begin-refused l m e, e) (record { directory = refl; values = refl }, refl, refl)
 
 -- and so do calls of which none formats
 pub stay : (ss : List Namespace) (m : Memory) (xs : List Call) → Holds ss m → never formats m xs ≡ true
@@ -75,8 +73,8 @@ pub past-as-lent : (a : Start) (xs : List Call) → begun a .number ≡ 0 → ne
     → SamePast (blanks (halves (a .layout))) (a .lent) (memoryAfter a xs)
 past-as-lent a xs ok n =
     let ss = blanks (halves (a .layout)) in
-    let f = format-kept (a .layout) (a .lent) ok in
-    let k = stay ss (begun a .after) xs (format-holds (halves (a .layout)) (a .lent) (few (a .layout)) ok) n .0 in
+    let f = begin-kept (a .layout) (a .lent) ok in
+    let k = stay ss (begun a .after) xs (begin-holds (a .layout) (a .lent) ok) n .0 in
     record { directory = sym (k .directory ∙ f .directory); values = sym (k .values ∙ f .values) }
 
 -- ---- the same bytes

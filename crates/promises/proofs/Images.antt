@@ -5,7 +5,7 @@ use mathlib.Core.Bool.{true, false}
 use mathlib.Core.List.{List, [], _∷_, _++_}
 use Prim.Native.Nat.{ℕ, _*_}
 use Rattle.octets.specs.Octets.{put, zeros}
-use Rattle.store.specs.Formats.{slots}
+use Rattle.table.specs.Formats.{slots}
 use Rattle.store.specs.Namespace.{Namespace, fresh}
 use Rattle.store.specs.Records.{recordsPart, valuesPart}
 use Rattle.memory.specs.Memory.{Memory, memory, halfOf, labelOf, directoryOf, valuesOf, namespacesOf, legal}

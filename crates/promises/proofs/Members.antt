@@ -16,7 +16,7 @@ use Rattle.wire.proofs.PageLaws.{page-back}
 use Rattle.memory.specs.Namespaces.{at as named}
 use Rattle.rules.specs.Steps.{statusOf}
 use Rattle.commands.specs.Command.{command}
-use Rattle.module.specs.History.{Call, formatting, commanding, polling, run, succeeded, status}
+use Rattle.module.specs.History.{Call, formatting, commanding, asking, run, succeeded, status}
 use Rattle.module.proofs.HistoryLaws.{status-back}
 use Rattle.promises.specs.Requests.{Request, call, asked}
 use Rattle.promises.specs.Devices.{real, Point, at, moved, goes, opened}
@@ -41,7 +41,7 @@ staying-leaves before m p e c b = refl
 pub staying-forgets : Forgets staying
 staying-forgets before earlier m (formatting l) = refl
 staying-forgets before earlier m (commanding p e c b) = refl
-staying-forgets before earlier m (polling n) = refl
+staying-forgets before earlier m (asking n) = refl
 
 pub staying-opens : Opens staying
 staying-opens a ok = ok
@@ -99,7 +99,7 @@ module _ (f : ℕ → ℕ) where
   goes-same q [] = refl
   goes-same q (formatting l ∷ xs) = goes-same (moved real q (formatting l)) xs
   goes-same q (commanding p e c b ∷ xs) = goes-same (moved real q (commanding p e c b)) xs
-  goes-same q (polling n ∷ xs) = goes-same (moved real q (polling n)) xs
+  goes-same q (asking n ∷ xs) = goes-same (moved real q (asking n)) xs
 
   abbrev Right : Request → Point → Type 0
   Right x q = statusOf true (named (asked x .nsid) (q .stored)) (asked x) (length (x .buffer)) ≡ 0 → succeeded (at (counting f) q (call x)) ≡ true

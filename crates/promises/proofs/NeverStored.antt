@@ -8,9 +8,9 @@ use lib.Dec.{eqb}
 use lib.ListN.{take}
 use borrow.Author.Tests.{not-true, eqb-true, eqb-false}
 use Rattle.octets.specs.Octets.{same}
-use Rattle.octets.specs.Keys.{Key}
+use Rattle.keys.specs.Keys.{Key}
 use Rattle.octets.proofs.TestLaws.{contrary, both}
-use Rattle.octets.proofs.OrderLaws.{Rising}
+use Rattle.keys.proofs.OrderLaws.{Rising}
 use Rattle.octets.proofs.ZeroLaws.{true-same, same-true}
 use Rattle.wire.specs.declared.entries.Command.{Command}
 use Rattle.wire.specs.Entry.{readCommand, keyOf, isStore, isRetrieve, isDelete, isExist}
@@ -22,10 +22,9 @@ use Rattle.memory.specs.Memory.{Memory}
 use Rattle.memory.proofs.ImageLaws.{Holds}
 use Rattle.formatting.specs.declared.measures.Half.{Half}
 use Rattle.formatting.specs.Formatting.{blanks}
-use Rattle.formatting.proofs.FormatLaws.{format-holds}
 use Rattle.commands.specs.Answer.{pairsAfter}
-use Rattle.module.specs.History.{halves, Call, formatting, commanding, polling, run, succeeded, changed, told, stored}
-use Rattle.module.proofs.HistoryLaws.{few, told-call}
+use Rattle.module.specs.History.{halves, Call, formatting, commanding, asking, run, succeeded, changed, told, stored}
+use Rattle.module.proofs.HistoryLaws.{begin-holds, told-call}
 use Rattle.promises.specs.Histories.{Start, begun, memoryAfter, storedAfter, storedIn, never}
 use Rattle.promises.specs.Requests.{Request, call, sends, Proper, Gives}
 use Rattle.promises.specs.Calls.{stores}
@@ -64,7 +63,7 @@ none-told n k ss m (formatting l) h e q = go (eqb (run m (formatting l) .number)
     go : (z : Bool) → lookup k (at n (cond z (blanks (halves l)) ss) .pairs) ≡ none
     go true = ap (lookup k) (blank-pairs n (halves l))
     go false = e
-none-told n k ss m (polling i) h e q = e
+none-told n k ss m (asking i) h e q = e
 none-told n k ss m (commanding p e c b) h f q = go (succeeded (run m (commanding p e c b))) (eqb (d .nsid) n) refl (held n ss) refl (not-true _ q)
   where
     d : Command
@@ -101,7 +100,7 @@ pub never-stored-87h : (a : Start) (xs : List Call) (op n : ℕ) (k : Key) (r : 
     → never (stores n k) (begun a .after) xs ≡ true → (isRetrieve op || isDelete op || isExist op) ≡ true → Proper n (storedIn n a xs) op k r
     → Gives 0x87 0 (r .buffer) (sends (memoryAfter a xs) r)
 never-stored-87h a xs op n k r ok q =
-    let h = format-holds (halves (a .layout)) (a .lent) (few (a .layout)) ok in
+    let h = begin-holds (a .layout) (a .lent) ok in
     absent-87h a xs op n k r ok
     (none-stored n k (blanks (halves (a .layout))) (begun a .after) xs h (ap (lookup k) (blank-pairs n (halves (a .layout)))) q)
 

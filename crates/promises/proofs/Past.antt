@@ -9,12 +9,12 @@ use lib.Dec.{eqb, ltb}
 use lib.ListN.{length, take, length-take}
 use borrow.Author.Tests.{eqb-true, ltb-true, ltb-false}
 use Rattle.octets.specs.Octets.{part}
-use Rattle.octets.proofs.TestLaws.{contrary}
+use Rattle.octets.proofs.TestLaws.{known, holds, fails, contrary}
 use Rattle.octets.proofs.PartLaws.{part-take}
 use Rattle.wire.specs.declared.entries.Command.{Command}
 use Rattle.wire.specs.Entry.{readCommand}
 use Rattle.store.specs.declared.namespaces.Label.{Label}
-use Rattle.store.specs.Formats.{slots}
+use Rattle.table.specs.Formats.{slots}
 use Rattle.store.specs.Maps.{Pair}
 use Rattle.store.specs.Namespace.{Namespace}
 use Rattle.memory.specs.Namespaces.{total, slotsOf, sizeOf, with}
@@ -24,15 +24,16 @@ use Rattle.memory.proofs.ImageLaws.{Holds, holds-back, holds-legal, legal-holds
 use Rattle.rules.specs.Steps.{steps, statusOf}
 use Rattle.formatting.specs.declared.measures.Half.{Half}
 use Rattle.formatting.specs.Formatting.{blanks, formatSteps, format}
-use Rattle.formatting.proofs.FormatLaws.{format-holds, format-refused}
 use Rattle.commands.specs.Answer.{answer}
 use Rattle.commands.specs.Command.{Post, completionOf, Lent, respond, serve, outcome}
 use Rattle.commands.proofs.CommandLaws.{entry-key, serve-is, serve-holds, command-0, command-1, command-2}
-use Rattle.room.specs.declared.polls.Room.{Room}
-use Rattle.room.specs.Room.{room}
-use Rattle.room.proofs.PollLaws.{room-held}
-use Rattle.module.specs.History.{Layout, halves, Call, formatting, commanding, polling, lend, run}
-use Rattle.module.proofs.HistoryLaws.{few}
+use Rattle.maps.specs.declared.describes.Described.{Described}
+use Rattle.maps.specs.Describe.{describe}
+use Rattle.maps.proofs.DescribeLaws.{describe-held}
+use Rattle.identify.specs.Identify.{asked, create}
+use Rattle.module.specs.History.{Layout, one, two, fields, halves, begin, Question, idOf, ask, tell, numberIn, pageIn}
+use Rattle.module.specs.History.{Call, formatting, commanding, asking, lend, run}
+use Rattle.module.proofs.HistoryLaws.{begin-refused, begin-holds, ask-is}
 use Rattle.promises.specs.Histories.{SameNeeded, begun}
 use Rattle.promises.specs.Requests.{call}
 use Rattle.promises.specs.Calls.{spacesFor, SameOutcome}
@@ -159,47 +160,56 @@ short-same k xs ys e = go (ltb (length xs) k) refl (ltb (length ys) k) refl
     go true f false g = absurd (omega (arith, simp length-take at (ap length e), ltb-true, ltb-false))
     go false f true g = absurd (omega (arith, simp length-take at (ap length e), ltb-true, ltb-false))
 
+format-number : (hs : List Half) (m n : Memory) → SameNeeded (blanks hs) m n → format hs m .number ≡ format hs n .number
+unfolding format formatSteps
+format-number hs m n a =
+    rw (
+      short-same (needed (blanks hs)) (m .directory) (n .directory) (a .directory),
+      short-same (neededValues (blanks hs)) (m .values) (n .values) (a .values),
+    )
+
 module _ (l : Layout) (m n : Memory) (a : SameNeeded (blanks (halves l)) m n) where
-  abbrev hs : List Half
-  hs = halves l
-
-  same-number : format hs m .number ≡ format hs n .number
-  unfolding format formatSteps
-  same-number =
-      rw (
-        short-same (needed (blanks hs)) (m .directory) (n .directory) (a .directory),
-        short-same (neededValues (blanks hs)) (m .values) (n .values) (a .values),
-      )
-
-  same-formatted : SameNeeded (blanks hs) (format hs m .after) (format hs n .after)
-  unfolding format
-  same-formatted = go (eqb (format hs m .number) 0) refl
+  same-number : begin l m .number ≡ begin l n .number
+  unfolding create
+  same-number = go l a
     where
-      go : (z : Bool) → eqb (format hs m .number) 0 ≡ z → SameNeeded (blanks hs) (format hs m .after) (format hs n .after)
+      go : (l : Layout) → SameNeeded (blanks (halves l)) m n → begin l m .number ≡ begin l n .number
+      go (one h) b = format-number (h ∷ []) m n b
+      go (two h k) b = format-number (h ∷ k ∷ []) m n b
+      go (fields s id) b =
+          elim (known (eqb (length s) 512)) [ holds q ↦ rw q (format-number (asked s id ∷ []) m n b) | fails q ↦ rw q ]
+
+  same-formatted : SameNeeded (blanks (halves l)) (begin l m .after) (begin l n .after)
+  same-formatted = go (eqb (begin l m .number) 0) refl
+    where
+      go : (z : Bool) → eqb (begin l m .number) 0 ≡ z → SameNeeded (blanks (halves l)) (begin l m .after) (begin l n .after)
       go true e =
-          let ok = eqb-true (format hs m .number) 0 e in
-          let h = format-holds hs m (few l) ok in
-          let g = format-holds hs n (few l) (sym same-number ∙ ok) in
+          let ok = eqb-true (begin l m .number) 0 e in
+          let h = begin-holds l m ok in
+          let g = begin-holds l n (sym same-number ∙ ok) in
           record { directory = h .directory ∙ sym (g .directory); values = h .values ∙ sym (g .values) }
-      go false e = rw (format-refused hs m e, format-refused hs n (rw same-number at e)) a
+      go false e = rw (begin-refused l m e, begin-refused l n (rw same-number at e)) a
 
--- ---- a poll
+-- ---- a question
 
-pub past-room : (i : ℕ) (m n : Memory) → SameNeeded (namespacesOf m) m n → room i m ≡ room i n
-unfolding room
-past-room i m n a = go (legal m) refl (legal n) refl
+past-described : (i : ℕ) (m n : Memory) → SameNeeded (namespacesOf m) m n → describe i m ≡ describe i n
+unfolding describe
+past-described i m n a = go (legal m) refl (legal n) refl
   where
-    go : (x : Bool) → legal m ≡ x → (y : Bool) → legal n ≡ y → room i m ≡ room i n
-    go true f y g = let h = legal-holds m f in room-held i h ∙ sym (room-held i (alike-holds h a))
+    go : (x : Bool) → legal m ≡ x → (y : Bool) → legal n ≡ y → describe i m ≡ describe i n
+    go true f y g = let h = legal-holds m f in describe-held i h ∙ sym (describe-held i (alike-holds h a))
     go false f true g = absurd (contrary (sym f ∙ alike-legal (alike-turned a) g))
     go false f false g = rw (f, g)
+
+pub past-told : (m n : Memory) (q : Question) → SameNeeded (namespacesOf m) m n → ask m q ≡ ask n q
+past-told m n q a = ask-is m q ∙ ap (λ (d : Described). tell d q) (past-described (idOf q) m n a) ∙ sym (ask-is n q)
 
 -- ---- the promise
 
 pub past : (m n : Memory) (x : Call) → SameNeeded (spacesFor m x) m n → SameOutcome (spacesFor m x) (run m x) (run n x)
 past m n (formatting l) a = record { number = same-number l m n a; completion = refl; buffer = refl; memory = same-formatted l m n a }
 past m n (commanding p e c b) a = past-command m n a p e c b
-past m n (polling i) a = record { number = ap (λ (r : Room). r .number) (past-room i m n a); completion = refl; buffer = refl; memory = a }
+past m n (asking q) a = let t = past-told m n q a in record { number = ap numberIn t; completion = refl; buffer = ap pageIn t; memory = a }
 
 -- ---- an instance: a Store of A on two memories that end in 7 and in 9
 

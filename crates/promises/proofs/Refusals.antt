@@ -13,30 +13,41 @@ use Rattle.octets.proofs.TestLaws.{contrary, refuted}
 use Rattle.wire.specs.Entry.{readCommand}
 use Rattle.wire.specs.Completion.{readCompletion}
 use Rattle.memory.specs.Memory.{Memory}
-use Rattle.formatting.specs.Formatting.{half, format}
+use Rattle.maps.specs.Describe.{describe}
+use Rattle.formatting.specs.Formatting.{half}
+use Rattle.identify.specs.Identify.{identify}
 use Rattle.commands.specs.Command.{Post, Lent, Outcome}
-use Rattle.module.specs.History.{one, halves, Call, formatting, commanding, polling, lend, run, status}
+use Rattle.module.specs.History.{one, begin, Question, polling, identifying, ask, numberIn, pageIn, Call, formatting, commanding, asking, lend, run, status}
 use Rattle.commands.proofs.CommandLaws.{command-0, command-1, command-2, serve-refused}
-use Rattle.formatting.proofs.FormatLaws.{format-refused}
+use Rattle.module.proofs.HistoryLaws.{begin-refused}
 use Rattle.host.specs.Build as Build
 use Rattle.promises.specs.Agreement.{Ask, builds}
 use Rattle.promises.specs.Histories.{begun}
 use Rattle.promises.specs.Requests.{Request, call, sends}
-use Rattle.promises.specs.Calls.{lentTo, Spares}
+use Rattle.promises.specs.Calls.{pageFor, lentTo, Spares}
 use Rattle.promises.proofs.AnyMemory.{any-served, any-status}
 use Rattle.promises.proofs.Examples.{onMemory, start, B, store}
 
+-- a question that is refused leaves the slice that it is lent
+asked-left : (m : Memory) (q : Question) → ¬ (numberIn (ask m q) ≡ 0) → pageIn (ask m q) ≡ pageFor q
+unfolding identify
+asked-left m (polling n) h = refl
+asked-left m (identifying p n) h = go (eqb (length p) 4096) refl (eqb (describe n m .number) 0) refl
+  where
+    go : (x : Bool) → eqb (length p) 4096 ≡ x → (y : Bool) → eqb (describe n m .number) 0 ≡ y → identify n p m .page ≡ p
+    go false f y g = rw f
+    go true f false g = rw (f, g)
+    go true f true g = absurd (h (rw f (eqb-true (describe n m .number) 0 g)))
+
 numbered-left : (m : Memory) (x : Call) → ¬ (run m x .number ≡ 0) → run m x .after ≡ lentTo m x
-unfolding format
-numbered-left m (formatting l) h =
-    ap (lend [] []) (format-refused (halves l) m (refuted (eqb (format (halves l) m .number) 0) (λ e. h (eqb-true _ 0 e))))
+numbered-left m (formatting l) h = ap (lend [] []) (begin-refused l m (refuted (eqb (begin l m .number) 0) (λ e. h (eqb-true _ 0 e))))
 numbered-left m (commanding p e c b) h = go (eqb (length e) 64) refl (eqb (length c) 16) refl
   where
     go : (x : Bool) → eqb (length e) 64 ≡ x → (y : Bool) → eqb (length c) 16 ≡ y → run m (commanding p e c b) .after ≡ lend c b m
     go false f y g = ap (λ (o : Outcome). o .after) (command-1 p e (lend c b m) f)
     go true f false g = ap (λ (o : Outcome). o .after) (command-2 p e (lend c b m) f g)
     go true f true g = absurd (h (ap (λ (o : Outcome). o .number) (command-0 p e (lend c b m) f g)))
-numbered-left m (polling n) h = refl
+numbered-left m (asking q) h = ap (λ p. lend [] p m) (asked-left m q h)
 
 refused-left : (m : Memory) (p : Post) (e c b : List ℕ) → ¬ (status (run m (commanding p e c b)) ≡ 0)
     → (run m (commanding p e c b) .after .buffer ≡ b) × (run m (commanding p e c b) .after .memory ≡ m)
@@ -61,7 +72,7 @@ pub refusals : (m : Memory) (x : Call) → Spares (lentTo m x) (run m x)
 unfolding readCompletion part number
 refusals m (formatting l) = record { numbered = numbered-left m (formatting l); refused = λ h. absurd (h refl) }
 refusals m (commanding p e c b) = record { numbered = numbered-left m (commanding p e c b); refused = refused-left m p e c b }
-refusals m (polling n) = record { numbered = numbered-left m (polling n); refused = λ h. absurd (h refl) }
+refusals m (asking q) = record { numbered = numbered-left m (asking q); refused = λ h. absurd (h refl) }
 
 -- the host's builder leaves the entry that it refuses to build
 pub builder-refusals : (e : List ℕ) (a : Ask) → ¬ (builds e a .number ≡ 0) → builds e a .entry ≡ e

@@ -8,7 +8,7 @@ use lib.ListN.{length}
 use borrow.Author.Tests.{eqb-true, eq-eqb, not-false}
 use Rattle.octets.specs.Tests.{firstOf}
 use Rattle.octets.proofs.TestLaws.{None, none-holds, none-first, known, holds, fails}
-use Rattle.octets.proofs.OrderLaws.{Rising}
+use Rattle.keys.proofs.OrderLaws.{Rising}
 use Rattle.wire.specs.Entry.{notEntry}
 use Rattle.wire.specs.Completion.{notCompletion}
 use Rattle.store.specs.Maps.{keys}
@@ -23,15 +23,14 @@ use Rattle.commands.proofs.AnswerLaws.{answer-status}
 use Rattle.memory.proofs.NameLaws.{at-id, at-within, at-none}
 use Rattle.memory.proofs.ImageLaws.{Holds}
 use Rattle.formatting.specs.Formatting.{blanks}
-use Rattle.formatting.proofs.FormatLaws.{format-holds}
-use Rattle.module.proofs.HistoryLaws.{few, told-calls, call-number, call-status, call-dword0, call-buffer}
+use Rattle.module.proofs.HistoryLaws.{begin-holds, told-calls, call-number, call-status, call-dword0, call-buffer}
 use Rattle.module.specs.History.{halves, Call}
 use Rattle.promises.specs.Histories.{Start, begun, memoryAfter, storedAfter}
 use Rattle.promises.specs.Requests.{Request, sends, asked, viewAt, stockAt, refusal, Gives}
 
 pub holds-after : (a : Start) (xs : List Call) → begun a .number ≡ 0 → Holds (storedAfter a xs) (memoryAfter a xs)
 holds-after a xs ok =
-    told-calls (blanks (halves (a .layout))) (begun a .after) xs (format-holds (halves (a .layout)) (a .lent) (few (a .layout)) ok)
+    told-calls (blanks (halves (a .layout))) (begun a .after) xs (begin-holds (a .layout) (a .lent) ok)
 
 -- ---- the namespace that n names
 

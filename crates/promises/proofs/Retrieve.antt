@@ -10,9 +10,9 @@ use lib.Dec.{eqb}
 use lib.ListN.{length, take, replicate}
 use borrow.Author.Tests.{not-true, eqb-true, eqb-false, eq-eqb}
 use Rattle.octets.specs.Octets.{put, same}
-use Rattle.octets.specs.Keys.{Key}
+use Rattle.keys.specs.Keys.{Key}
 use Rattle.octets.proofs.TestLaws.{both, contrary, known, holds, fails}
-use Rattle.octets.proofs.OrderLaws.{Rising}
+use Rattle.keys.proofs.OrderLaws.{Rising}
 use Rattle.wire.specs.Entry.{readCommand, keyOf, isStore, isRetrieve, isDelete, isExist}
 use Rattle.wire.specs.declared.entries.Command.{Command}
 use Rattle.store.specs.Maps.{Pair, keys, lookup, insert, erase}
@@ -27,7 +27,7 @@ use Rattle.rules.specs.Steps.{steps, statusOf}
 use Rattle.formatting.specs.Formatting.{blanks}
 use Rattle.commands.specs.Answer.{answer, pairsAfter}
 use Rattle.commands.proofs.AnswerLaws.{refused, unrefused, value-small}
-use Rattle.module.specs.History.{halves, Call, formatting, commanding, polling, run, leaves, succeeded, changed, told, stored}
+use Rattle.module.specs.History.{halves, Call, formatting, commanding, asking, run, leaves, succeeded, changed, told, stored}
 use Rattle.module.proofs.HistoryLaws.{told-call}
 use Rattle.promises.specs.Histories.{Start, begun, memoryAfter, storedAfter, storedIn, never, touches}
 use Rattle.promises.specs.Requests.{Request, call, sends, asked, Proper, Gives}
@@ -65,7 +65,7 @@ unchanged-at c b n ss out =
 spared-told : (n : ℕ) (k : Key) (ss : List Namespace) (m : Memory) (x : Call) → Holds ss m → not (touches n k x (run m x)) ≡ true
     → lookup k (at n (told ss x (run m x)) .pairs) ≡ lookup k (at n ss .pairs)
 spared-told n k ss m (formatting l) h q = rw (not-true (eqb (run m (formatting l) .number) 0) q)
-spared-told n k ss m (polling i) h q = refl
+spared-told n k ss m (asking i) h q = refl
 spared-told n k ss m (commanding p e c b) h q = go (succeeded (run m (commanding p e c b))) (eqb (d .nsid) n) refl (held n ss) refl (not-true _ q)
   where
     d : Command

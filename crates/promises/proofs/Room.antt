@@ -16,12 +16,13 @@ use Rattle.memory.specs.Namespaces.{held, at}
 use Rattle.memory.specs.Memory.{Memory, memory, labelIn, namespacesOf, legal}
 use Rattle.memory.proofs.ImageLaws.{Holds, legal-holds}
 use Rattle.memory.proofs.PlaceLaws.{label-held}
+use Rattle.maps.specs.Describe.{describe}
 use Rattle.commands.specs.Command.{Post}
 use Rattle.rules.proofs.StepLaws.{illegal, never-06h}
 use Rattle.room.specs.declared.polls.Room.{Room}
 use Rattle.room.specs.Room.{filledBy, noRoom, room}
 use Rattle.room.proofs.PollLaws.{room-held}
-use Rattle.module.specs.History.{Call, commanding, polling, run, status}
+use Rattle.module.specs.History.{polling, Call, commanding, asking, run, status}
 use Rattle.promises.specs.Histories.{Start, begun, memoryAfter, storedAfter, storedIn, Sums}
 use Rattle.promises.specs.Requests.{call, sends}
 use Rattle.promises.proofs.AnyMemory.{any-status}
@@ -51,7 +52,7 @@ legal-sum m e = go (namespacesOf m) (legal-holds m e)
 -- of a command that numbers 1 and 2 let pass
 pub refused-alike : (i : ℕ) (m : Memory) (p : Post) (e c b : List ℕ) → run m (commanding p e c b) .number ≡ 0
     → (room i m .number ≡ 18 → status (run m (commanding p e c b)) ≡ 0x06) × (status (run m (commanding p e c b)) ≡ 0x06 → room i m .number ≡ 18)
-unfolding room
+unfolding room describe
 refused-alike i m p e c b n = go (legal m) refl (held i (namespacesOf m)) refl
   where
     go : (x : Bool) → legal m ≡ x → (y : Bool) → held i (namespacesOf m) ≡ y
@@ -65,7 +66,7 @@ refused-alike i m p e c b n = go (legal m) refl (held i (namespacesOf m)) refl
 
 abbrev calls : List Call
 calls =
-    call (store A (5 ∷ 6 ∷ 7 ∷ [])) ∷ call (store B (9 ∷ [])) ∷ call (store A (8 ∷ 8 ∷ [])) ∷ polling 1 ∷ call (request 0x10 B 0 [])
+    call (store A (5 ∷ 6 ∷ 7 ∷ [])) ∷ call (store B (9 ∷ [])) ∷ call (store A (8 ∷ 8 ∷ [])) ∷ asking (polling 1) ∷ call (request 0x10 B 0 [])
     ∷ call (store (key 1) []) ∷ vain
 
 -- A with two bytes, and the key of sixteen
@@ -101,7 +102,7 @@ abbrev damaged : Memory
 damaged = memory (put 16 (1 ∷ []) (empty .directory)) (empty .values)
 
 met : (legal empty ≡ true) × (room 1 damaged .number ≡ 18) × (sends damaged (exist A) .number ≡ 0)
-unfolding onMemory room
+unfolding onMemory room describe
 met = (refl, refl, refl)
 
 summed : Sums 0 (namespacesOf empty) (empty .directory)

@@ -9,9 +9,9 @@ use Rattle.store.proofs.NamespaceLaws.{Admitted, Within, format-bounds}
 use Rattle.store.specs.Maps.{Pair, keys as keysOf}
 use Rattle.store.specs.Namespace.{Namespace}
 use Rattle.octets.specs.Octets.{put}
-use Rattle.octets.specs.Keys.{Key, from}
+use Rattle.keys.specs.Keys.{Key, from}
 use Rattle.octets.proofs.TestLaws.{known, holds, fails}
-use Rattle.octets.proofs.OrderLaws.{Below, Rising, order-self, below-trans, below-greater}
+use Rattle.keys.proofs.OrderLaws.{Below, Rising, order-self, below-trans, below-greater}
 use Rattle.wire.specs.Page.{entrySize, page, fits, keys, readPage, shown}
 use Rattle.wire.proofs.PageLaws.{Sized, page-back, fits-next}
 use Rattle.store.specs.Finds.{rank}

@@ -7,7 +7,7 @@ use Prim.Native.Nat.{ℕ, _+_, _-_, _≤_}
 use native.Mathlib.Omega.{arith}
 use lib.ListN.{length, take, replicate, length-take}
 use borrow.Author.Tests.{le-ltb}
-use Rattle.octets.specs.Keys.{Key}
+use Rattle.keys.specs.Keys.{Key}
 use Rattle.octets.proofs.TestLaws.{none-holds, none-first}
 use Rattle.wire.specs.Entry.{keyOf}
 use Rattle.store.specs.Maps.{lookup, used, heldRoom, insert}

@@ -1,13 +1,14 @@
 -- At most one outcome satisfies a contract: the law, then the public functions, those that are exported to C first; those of `octets`,
--- `wire` and `store` are in `UniqueBelow.antt`. Assumes nothing.
+-- `keys`, `wire`, `table`, `store` and `verbs` are in `UniqueBelow.antt`. Assumes nothing.
 use mathlib.Core.Path.{_≡_, sym, ap, _∙_}
 use mathlib.Core.List.{List}
 use Prim.Native.Nat.{ℕ, _≤_}
-use Rattle.octets.specs.Keys.{Key}
+use Rattle.keys.specs.Keys.{Key}
 use Rattle.memory.specs.Memory.{Memory, memory}
 use Rattle.memory.proofs.labels as labels
 use Rattle.memory.proofs.permits as permits
 use Rattle.memory.proofs.checks as memoryChecks
+use Rattle.maps.proofs.describes as describes
 use Rattle.maps.proofs.looks as looks
 use Rattle.changes.proofs.pairs as pairs
 use Rattle.rules.proofs.steps as steps
@@ -18,14 +19,20 @@ use Rattle.formatting.proofs.formats as formats
 use Rattle.commands.specs.Command.{Post, Lent, lent, Response, response, Outcome, outcome, command}
 use Rattle.commands.proofs.commands as commands
 use Rattle.room.proofs.polls as polls
+use Rattle.identify.specs.Identify.{Identified, identified, identify}
+use Rattle.identify.proofs.creations as creations
+use Rattle.identify.proofs.pages as identifyPages
 use Rattle.host.specs.Build.{Built, built, build}
 use Rattle.module.proofs.kv_format as kv_format
 use Rattle.module.proofs.kv_format_two as kv_format_two
+use Rattle.module.proofs.kv_format_fields as kv_format_fields
 use Rattle.module.proofs.kv_command as kv_command
 use Rattle.module.proofs.kv_used as kv_used
+use Rattle.module.proofs.kv_identify as kv_identify
 use Rattle.host.proofs.builder as builder
 use Rattle.host.proofs.replies as replies
 use Rattle.host.proofs.pages as hostPages
+use Rattle.host.proofs.identities as identities
 use Rattle.promises.specs.Unique.{Determines}
 
 -- a contract that is an equation, with all that the function yields on its left: b and c are that side for two outcomes, and what
@@ -50,6 +57,9 @@ pub kv-format-two-one : Determines kv_format_two.Kinds.ps kv_format_two.Kinds.r 
 kv-format-two-one κs a x y u v p q =
     one p q (λ (o : Formatted). o .number) (λ o. (tt, (tt, (tt, (tt, (tt, (tt, (o .after .directory, (o .after .values, tt)))))))))
 
+pub kv-format-fields-one : Determines kv_format_fields.Kinds.ps kv_format_fields.Kinds.r kv_format_fields.Reads.Learnt
+kv-format-fields-one κs a x y u v p q = one p q (λ (o : Formatted). o .number) (λ o. (tt, (tt, (o .after .directory, (o .after .values, tt)))))
+
 pub kv-command-one : Determines kv_command.Kinds.ps kv_command.Kinds.r kv_command.Reads.Learnt
 kv-command-one κs a x y u v p q =
     one p q (λ (o : Outcome). o .number)
@@ -57,6 +67,9 @@ kv-command-one κs a x y u v p q =
 
 pub kv-used-one : Determines kv_used.Kinds.ps kv_used.Kinds.r kv_used.Reads.Learnt
 kv-used-one κs a x y u v p q = value p q
+
+pub kv-identify-one : Determines kv_identify.Kinds.ps kv_identify.Kinds.r kv_identify.Reads.Learnt
+kv-identify-one κs a x y u v p q = one p q (λ (i : Identified). i .number) (λ i. (i .page, (tt, (tt, (tt, tt)))))
 
 pub kv-build-one : Determines builder.kv_build.Kinds.ps builder.kv_build.Kinds.r builder.kv_build.Reads.Learnt
 kv-build-one κs a x y u v p q = one p q (λ (b : Built). b .number) (λ b. (b .entry, (tt, (tt, (tt, (tt, (tt, (tt, tt))))))))
@@ -66,6 +79,9 @@ kv-read-completion-one κs a x y u v p q = value p q
 
 pub kv-read-page-one : Determines hostPages.kv_read_page.Kinds.ps hostPages.kv_read_page.Kinds.r hostPages.kv_read_page.Reads.Learnt
 kv-read-page-one κs a x y u v p q = value p q
+
+pub kv-read-identify-one : Determines identities.kv_read_identify.Kinds.ps identities.kv_read_identify.Kinds.r identities.kv_read_identify.Reads.Learnt
+kv-read-identify-one κs a x y u v p q = value p q
 
 -- ---- memory::labels, permits, checks
 
@@ -84,7 +100,10 @@ permit-one κs a x y u v p q = value p q
 pub check-one : Determines memoryChecks.check.Kinds.ps memoryChecks.check.Kinds.r memoryChecks.check.Reads.Learnt
 check-one κs a x y u v p q = value p q
 
--- ---- maps::looks
+-- ---- maps::describes, looks
+
+pub describe-one : Determines describes.describe.Kinds.ps describes.describe.Kinds.r describes.describe.Reads.Learnt
+describe-one κs a x y u v p q = value p q
 
 pub look-up-one : Determines looks.look_up.Kinds.ps looks.look_up.Kinds.r looks.look_up.Reads.Learnt
 look-up-one κs a x y u v p q = value p q
@@ -138,6 +157,14 @@ command-one κs a x y u v p q =
     one p q (λ (o : Outcome). o .number)
     (λ o. let l = o .after in (tt, (l .completion, (l .buffer, (l .memory .directory, (l .memory .values, (tt, (tt, (tt, tt)))))))))
 
+-- ---- identify::creations, pages
+
+pub create-one : Determines creations.create.Kinds.ps creations.create.Kinds.r creations.create.Reads.Learnt
+create-one κs a x y u v p q = one p q (λ (o : Formatted). o .number) (λ o. (tt, (tt, (o .after .directory, (o .after .values, tt)))))
+
+pub identify-one : Determines identifyPages.identify.Kinds.ps identifyPages.identify.Kinds.r identifyPages.identify.Reads.Learnt
+identify-one κs a x y u v p q = one p q (λ (i : Identified). i .number) (λ i. (i .page, (tt, (tt, (tt, tt)))))
+
 -- ---- room
 
 pub used-room-one : Determines polls.used_room.Kinds.ps polls.used_room.Kinds.r polls.used_room.Reads.Learnt
@@ -158,6 +185,12 @@ pub command-parts : (p : Post) (e : List ℕ) (l : Lent) (r r′ : ℕ) (c c′ 
 command-parts p e l r r′ c c′ b b′ d d′ v v′ x y =
     let f = x ∙ sym y in
     (λ i. f i .number, λ i. f i .after .completion, λ i. f i .after .buffer, λ i. f i .after .memory .directory, λ i. f i .after .memory .values)
+
+pub identify-parts : (id : ℕ) (s : List ℕ) (m : Memory) (r r′ : ℕ) (p p′ : List ℕ) → identified r p ≡ identify id s m → identified r′ p′ ≡ identify id s m
+    → (r ≡ r′) × (p ≡ p′)
+identify-parts id s m r r′ p p′ x y =
+    let e = x ∙ sym y in
+    (λ i. e i .number, λ i. e i .page)
 
 pub build-parts : (e : List ℕ) (o cid nsid : ℕ) (k : Key) (dword10 options : ℕ) (r r′ : ℕ) (s s′ : List ℕ)
     → built r s ≡ build e o cid nsid k dword10 options → built r′ s′ ≡ build e o cid nsid k dword10 options → (r ≡ r′) × (s ≡ s′)

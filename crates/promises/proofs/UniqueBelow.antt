@@ -1,45 +1,46 @@
--- At most one outcome satisfies a contract: the public functions of `octets`, `wire` and `store`. Assumes nothing.
+-- At most one outcome satisfies a contract: the public functions of `octets`, `keys`, `wire`, `table`, `store` and `verbs`. Assumes nothing.
 use mathlib.Core.Path.{_≡_, refl, sym, ap, _∙_}
 use mathlib.Core.List.{List}
 use Prim.Native.Nat.{ℕ}
-use Rattle.octets.proofs.keys as keys
+use Rattle.keys.proofs.orders as orders
 use Rattle.octets.proofs.runs as runs
 use Rattle.octets.proofs.words as words
 use Rattle.wire.proofs.completions as completions
 use Rattle.wire.proofs.entries as entries
+use Rattle.wire.proofs.identify as identify
 use Rattle.wire.proofs.pages as pages
 use Rattle.store.specs.Maps.{Pair}
 use Rattle.store.specs.Parts.{Holds}
-use Rattle.store.proofs.formats as formats
+use Rattle.table.proofs.formats as formats
 use Rattle.store.proofs.checks as checks
 use Rattle.store.proofs.finds as finds
 use Rattle.store.proofs.records as records
 use Rattle.store.proofs.reads as reads
-use Rattle.store.proofs.verbs as verbs
+use Rattle.verbs.proofs.slots as slots
 use Rattle.promises.specs.Unique.{Determines}
 use Rattle.promises.proofs.Unique.{value, slice}
 
--- ---- octets::keys
+-- ---- keys::orders
 
-pub compare-one : Determines keys.compare.Kinds.ps keys.compare.Kinds.r keys.compare.Reads.Learnt
+pub compare-one : Determines orders.compare.Kinds.ps orders.compare.Kinds.r orders.compare.Reads.Learnt
 compare-one κs a x y u v p q = value p q
 
-pub widen-one : Determines keys.widen.Kinds.ps keys.widen.Kinds.r keys.widen.Reads.Learnt
+pub widen-one : Determines orders.widen.Kinds.ps orders.widen.Kinds.r orders.widen.Reads.Learnt
 widen-one κs a x y u v p q = value p q
 
-pub less-one : Determines keys.less.Kinds.ps keys.less.Kinds.r keys.less.Reads.Learnt
+pub less-one : Determines orders.less.Kinds.ps orders.less.Kinds.r orders.less.Reads.Learnt
 less-one κs a x y u v p q = value p q
 
-pub equal-one : Determines keys.equal.Kinds.ps keys.equal.Kinds.r keys.equal.Reads.Learnt
+pub equal-one : Determines orders.equal.Kinds.ps orders.equal.Kinds.r orders.equal.Reads.Learnt
 equal-one κs a x y u v p q = value p q
 
-pub pad-one : Determines keys.pad.Kinds.ps keys.pad.Kinds.r keys.pad.Reads.Learnt
+pub pad-one : Determines orders.pad.Kinds.ps orders.pad.Kinds.r orders.pad.Reads.Learnt
 pad-one κs a x y u v p q = value p q
 
-pub is-clear-one : Determines keys.is_clear.Kinds.ps keys.is_clear.Kinds.r keys.is_clear.Reads.Learnt
+pub is-clear-one : Determines orders.is_clear.Kinds.ps orders.is_clear.Kinds.r orders.is_clear.Reads.Learnt
 is-clear-one κs a x y u v p q = value p q
 
-pub ends-clear-one : Determines keys.ends_clear.Kinds.ps keys.ends_clear.Kinds.r keys.ends_clear.Reads.Learnt
+pub ends-clear-one : Determines orders.ends_clear.Kinds.ps orders.ends_clear.Kinds.r orders.ends_clear.Reads.Learnt
 ends-clear-one κs a x y u v p q = value p q
 
 -- ---- octets::runs
@@ -70,6 +71,9 @@ read16-one κs a x y u v p q = value p q
 pub read32-one : Determines words.read32.Kinds.ps words.read32.Kinds.r words.read32.Reads.Learnt
 read32-one κs a x y u v p q = value p q
 
+pub read64-one : Determines words.read64.Kinds.ps words.read64.Kinds.r words.read64.Reads.Learnt
+read64-one κs a x y u v p q = value p q
+
 pub write8-one : Determines words.write8.Kinds.ps words.write8.Kinds.r words.write8.Reads.Learnt
 write8-one κs a x y u v p q = slice p q (λ s. (s, (tt, (tt, tt))))
 
@@ -98,6 +102,11 @@ read-entry-one κs a x y u v p q = value p q
 pub write-entry-one : Determines entries.write_entry.Kinds.ps entries.write_entry.Kinds.r entries.write_entry.Reads.Learnt
 write-entry-one κs a x y u v p q = slice p q (λ s. (s, (tt, tt)))
 
+-- ---- wire::identify
+
+pub index-in-one : Determines identify.index_in.Kinds.ps identify.index_in.Kinds.r identify.index_in.Reads.Learnt
+index-in-one κs a x y u v p q = value p q
+
 -- ---- wire::pages
 
 pub page-entry-size-one : Determines pages.page_entry_size.Kinds.ps pages.page_entry_size.Kinds.r pages.page_entry_size.Reads.Learnt
@@ -106,7 +115,7 @@ page-entry-size-one κs a x y u v p q = value p q
 pub write-page-entry-one : Determines pages.write_page_entry.Kinds.ps pages.write_page_entry.Kinds.r pages.write_page_entry.Reads.Learnt
 write-page-entry-one κs a x y u v p q = slice p q (λ s. (s, (tt, (tt, tt))))
 
--- ---- store::formats, checks, finds
+-- ---- table::formats; store::checks, finds
 
 pub format-at-one : Determines formats.format_at.Kinds.ps formats.format_at.Kinds.r formats.format_at.Reads.Learnt
 format-at-one κs a x y u v p q = value p q
@@ -145,17 +154,17 @@ raise-places-one κs a x y u v p q = slice p q (λ s. (s, (tt, (tt, (tt, tt)))))
 pub copy-value-one : Determines reads.copy_value.Kinds.ps reads.copy_value.Kinds.r reads.copy_value.Reads.Learnt
 copy-value-one κs a x y u v p q = (p .0 ∙ sym (q .0), ap (λ (b : List ℕ). (tt, (tt, (tt, (b, (tt, tt)))))) (p .1 ∙ sym (q .1)))
 
--- ---- store::verbs: an equation for each of the two parts
+-- ---- verbs::slots: an equation for each of the two parts
 
 parts : {U : Type 0} {id n l : ℕ} {m : List Pair} {s t vs ws : List ℕ} → Holds id n l m s vs → Holds id n l m t ws
     → (slices : List ℕ → List ℕ → U) → (_≡_ {A = Unit {0}} tt tt) × (slices s vs ≡ slices t ws)
 parts p q slices = (refl, λ i. slices ((p .records ∙ sym (q .records)) i) ((p .values ∙ sym (q .values)) i))
 
-pub insert-one : Determines verbs.insert.Kinds.ps verbs.insert.Kinds.r verbs.insert.Reads.Learnt
+pub insert-one : Determines slots.insert.Kinds.ps slots.insert.Kinds.r slots.insert.Reads.Learnt
 insert-one κs a x y u v p q = parts p q (λ s vs. (s, (vs, (tt, (tt, (tt, (tt, (tt, (tt, tt)))))))))
 
-pub remove-one : Determines verbs.remove.Kinds.ps verbs.remove.Kinds.r verbs.remove.Reads.Learnt
+pub remove-one : Determines slots.remove.Kinds.ps slots.remove.Kinds.r slots.remove.Reads.Learnt
 remove-one κs a x y u v p q = parts p q (λ s vs. (s, (vs, (tt, (tt, (tt, (tt, tt)))))))
 
-pub replace-one : Determines verbs.replace.Kinds.ps verbs.replace.Kinds.r verbs.replace.Reads.Learnt
+pub replace-one : Determines slots.replace.Kinds.ps slots.replace.Kinds.r slots.replace.Reads.Learnt
 replace-one κs a x y u v p q = parts p q (λ s vs. (s, (vs, (tt, (tt, (tt, (tt, (tt, (tt, tt)))))))))

@@ -9,9 +9,9 @@ use lib.Dec.{eqb}
 use lib.ListN.{length, length-append}
 use borrow.Author.Tests.{not-true, eqb-false}
 use Rattle.octets.specs.Octets.{put}
-use Rattle.octets.specs.Keys.{Key, rising}
+use Rattle.keys.specs.Keys.{Key, rising}
 use Rattle.octets.proofs.TestLaws.{both, neither}
-use Rattle.octets.proofs.OrderLaws.{true-rising}
+use Rattle.keys.proofs.OrderLaws.{true-rising}
 use Rattle.octets.proofs.ZeroLaws.{same-self}
 use Rattle.wire.specs.declared.entries.Command.{Command}
 use Rattle.wire.specs.Entry.{readCommand, isStore, isDelete}
@@ -26,7 +26,7 @@ use Rattle.memory.proofs.NameLaws.{with-same}
 use Rattle.memory.proofs.ImageLaws.{Holds}
 use Rattle.rules.specs.Steps.{steps, statusOf}
 use Rattle.commands.specs.Answer.{answer, pairsAfter}
-use Rattle.module.specs.History.{Call, formatting, commanding, polling, run, leaves, succeeded, changed, told}
+use Rattle.module.specs.History.{Call, formatting, commanding, asking, polling, run, leaves, succeeded, changed, told}
 use Rattle.module.proofs.HistoryLaws.{told-call}
 use Rattle.promises.specs.Histories.{Start, begun, memoryAfter, storedAfter, storedIn, never, changes}
 use Rattle.promises.specs.Requests.{Request, call, sends, asked}
@@ -49,7 +49,7 @@ calm-pairs c b m e = let q = neither (isStore (c .opcode)) (isDelete (c .opcode)
 
 calm-told : (n : ℕ) (ss : List Namespace) (m : Memory) (x : Call) → not (changes n x (run m x)) ≡ true → at n (told ss x (run m x)) ≡ at n ss
 calm-told n ss m (formatting l) q = rw (not-true (eqb (run m (formatting l) .number) 0) q)
-calm-told n ss m (polling i) q = refl
+calm-told n ss m (asking i) q = refl
 calm-told n ss m (commanding p e c b) q = go (succeeded (run m (commanding p e c b))) (eqb (d .nsid) n) refl (not-true _ q)
   where
     d : Command
@@ -203,7 +203,7 @@ walked =
     record {
       first = list [];
       lists = record { proper = record { nsid = refl; opcode = refl; key = refl; passes = refl }; wide = omega arith };
-      onward = next {k = key 1} {ks = key 2 ∷ []} (call (exist (key 1)) ∷ polling 1 ∷ []) (list (key 2)) refl
+      onward = next {k = key 1} {ks = key 2 ∷ []} (call (exist (key 1)) ∷ asking (polling 1) ∷ []) (list (key 2)) refl
           (record { proper = record { nsid = refl; opcode = refl; key = refl; passes = refl }; wide = omega arith })
           (next {k = key 3} {ks = []} [] (list (key 3)) refl
           (record { proper = record { nsid = refl; opcode = refl; key = refl; passes = refl }; wide = omega arith }) ended);

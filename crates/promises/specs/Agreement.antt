@@ -6,7 +6,7 @@ use mathlib.Core.List.{List}
 use Prim.Native.Nat.{ℕ, _%_, _^_, _≤_, _<_}
 use lib.ListN.{length}
 use Rattle.octets.specs.Octets.{filled}
-use Rattle.octets.specs.Keys.{Key}
+use Rattle.keys.specs.Keys.{Key}
 use Rattle.wire.specs.declared.entries.Command.{Command}
 use Rattle.wire.specs.declared.completions.Completion.{Completion}
 use Rattle.wire.specs.Entry.{keyOf, known, isStore, isRetrieve, isList, isDelete, isExist}

@@ -5,20 +5,25 @@ use mathlib.Core.List.{List, []}
 use Prim.Native.Nat.{ℕ}
 use lib.Dec.{eqb}
 use Rattle.octets.specs.Octets.{same}
-use Rattle.octets.specs.Keys.{Key}
+use Rattle.keys.specs.Keys.{Key}
 use Rattle.wire.specs.Entry.{readCommand, keyOf, isStore}
 use Rattle.store.specs.Namespace.{Namespace}
 use Rattle.memory.specs.Memory.{Memory, namespacesOf}
 use Rattle.formatting.specs.Formatting.{blanks}
 use Rattle.commands.specs.Command.{Lent, Outcome}
-use Rattle.module.specs.History.{halves, Call, formatting, commanding, polling, lend, succeeded, status}
+use Rattle.module.specs.History.{halves, Question, polling, identifying, Call, formatting, commanding, asking, lend, succeeded, status}
 use Rattle.promises.specs.Histories.{SameNeeded}
 
--- all that a call is lent; a formatting and a poll have neither completion nor data buffer
+-- the slice that a question is lent for its answer
+abbrev pub pageFor : Question → List ℕ
+pageFor (polling n) = []
+pageFor (identifying p n) = p
+
+-- all that a call is lent; where it has no completion or no data buffer these are empty
 abbrev pub lentTo : Memory → Call → Lent
 lentTo m (formatting l) = lend [] [] m
 lentTo m (commanding p e c b) = lend c b m
-lentTo m (polling n) = lend [] [] m
+lentTo m (asking q) = lend [] (pageFor q) m
 
 -- o is the outcome of a call that was lent l: a number other than 0 leaves all of it, a status other than 00h all but the completion
 pub record Spares (l : Lent) (o : Outcome) : Type 0 where
@@ -27,11 +32,11 @@ pub record Spares (l : Lent) (o : Outcome) : Type 0 where
 
 -- ---- the needed part
 
--- a formatting goes by what it is given, a command and a poll by what stands in memory
+-- a formatting goes by what it is given, a command and a question by what stands in memory
 abbrev pub spacesFor : Memory → Call → List Namespace
 spacesFor m (formatting l) = blanks (halves l)
 spacesFor m (commanding p e c b) = namespacesOf m
-spacesFor m (polling n) = namespacesOf m
+spacesFor m (asking q) = namespacesOf m
 
 -- two outcomes that differ at most in bytes past the needed part
 pub record SameOutcome (ss : List Namespace) (x y : Outcome) : Type 0 where
@@ -45,4 +50,4 @@ pub record SameOutcome (ss : List Namespace) (x y : Outcome) : Type 0 where
 abbrev pub stores : ℕ → Key → Call → Outcome → Bool
 stores n k (formatting l) o = false
 stores n k (commanding p e c b) o = succeeded o && isStore (readCommand e .opcode) && eqb (readCommand e .nsid) n && same (keyOf (readCommand e)) k
-stores n k (polling i) o = false
+stores n k (asking q) o = false

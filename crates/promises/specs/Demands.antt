@@ -6,7 +6,7 @@ use mathlib.Core.Option.{none}
 use Prim.Native.Nat.{ℕ}
 use lib.ListN.{length, take}
 use Rattle.octets.specs.Octets.{put}
-use Rattle.octets.specs.Keys.{Key}
+use Rattle.keys.specs.Keys.{Key}
 use Rattle.wire.specs.Entry.{keyOf, isRetrieve, isList, isDelete, isExist}
 use Rattle.wire.specs.Page.{page, shown, Reading}
 use Rattle.store.specs.Maps.{lookup, keys as keysOf}

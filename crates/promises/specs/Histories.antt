@@ -7,15 +7,15 @@ use Prim.Native.Nat.{ℕ, _+_}
 use lib.Dec.{eqb}
 use lib.ListN.{take, drop}
 use Rattle.octets.specs.Octets.{part, number, same}
-use Rattle.octets.specs.Keys.{Key}
+use Rattle.keys.specs.Keys.{Key}
 use Rattle.wire.specs.Entry.{readCommand, keyOf, isStore, isDelete}
 use Rattle.store.specs.Maps.{lookup, used}
 use Rattle.store.specs.Namespace.{Namespace}
 use Rattle.memory.specs.Namespaces.{at, allWithin}
 use Rattle.memory.specs.Memory.{needed, neededValues, directoryOf, valuesOf, Memory}
-use Rattle.formatting.specs.Formatting.{blanks, Formatted, format}
+use Rattle.formatting.specs.Formatting.{blanks, Formatted}
 use Rattle.commands.specs.Command.{Outcome}
-use Rattle.module.specs.History.{Layout, halves, Call, formatting, commanding, polling, run, leaves, succeeded, stored}
+use Rattle.module.specs.History.{Layout, halves, begin, Call, formatting, commanding, asking, run, leaves, succeeded, stored}
 
 -- lent bytes, and what their formatting is given
 pub record Start : Type 0 where
@@ -23,7 +23,7 @@ pub record Start : Type 0 where
   pub lent : Memory
 
 abbrev pub begun : Start → Formatted
-begun a = format (halves (a .layout)) (a .lent)
+begun a = begin (a .layout) (a .lent)
 
 abbrev pub memoryAfter : Start → List Call → Memory
 memoryAfter a xs = leaves (begun a .after) xs
@@ -99,10 +99,10 @@ writes op = isStore op || isDelete op
 abbrev pub changes : ℕ → Call → Outcome → Bool
 changes n (formatting l) o = eqb (o .number) 0
 changes n (commanding p e c b) o = succeeded o && writes (readCommand e .opcode) && eqb (readCommand e .nsid) n
-changes n (polling i) o = false
+changes n (asking q) o = false
 
 -- it formats with success, or changes what n holds under k
 abbrev pub touches : ℕ → Key → Call → Outcome → Bool
 touches n k (formatting l) o = eqb (o .number) 0
 touches n k (commanding p e c b) o = changes n (commanding p e c b) o && same (keyOf (readCommand e)) k
-touches n k (polling i) o = false
+touches n k (asking q) o = false

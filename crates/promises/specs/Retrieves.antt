@@ -4,7 +4,7 @@ use mathlib.Core.Bool.{true}
 use mathlib.Core.List.{List, [], _∷_}
 use Prim.Native.Nat.{ℕ}
 use lib.ListN.{take}
-use Rattle.octets.specs.Keys.{Key}
+use Rattle.keys.specs.Keys.{Key}
 use Rattle.wire.specs.Entry.{keyOf}
 use Rattle.module.specs.History.{Call, succeeded}
 use Rattle.promises.specs.Histories.{Start, begun, memoryAfter, System, own, neverOn, touches}

@@ -11,7 +11,7 @@ use Rattle.wire.specs.Page.{page, keys, readPage}
 use Rattle.memory.specs.Namespaces.{at as named}
 use Rattle.memory.specs.Memory.{Memory}
 use Rattle.commands.specs.Command.{Post, completionOf, outcome}
-use Rattle.module.specs.History.{Call, formatting, commanding, polling, lend, run, succeeded, status}
+use Rattle.module.specs.History.{Call, formatting, commanding, asking, lend, run, succeeded, status}
 use Rattle.promises.specs.Histories.{Start}
 use Rattle.promises.specs.Requests.{Request, call, asked}
 use Rattle.promises.specs.Devices.{Device, at, opens, reached}
@@ -37,7 +37,7 @@ abbrev pub commanded : List Call → Bool
 commanded [] = false
 commanded (formatting l ∷ xs) = commanded xs
 commanded (commanding p e c b ∷ xs) = true
-commanded (polling n ∷ xs) = commanded xs
+commanded (asking q ∷ xs) = commanded xs
 
 -- after the first command each has status 00h and its data buffer back; what formattings do is free, and so are numbers 1 and 2
 abbrev pub Idles : Device → Type 0
@@ -79,7 +79,7 @@ Empties d = (before : List Call) (m : Memory) (p : Post) (e c b : List ℕ) → 
 -- but for the completion
 abbrev pub saying : ℕ → Device
 saying st before m (formatting l) = run m (formatting l)
-saying st before m (polling n) = run m (polling n)
+saying st before m (asking q) = run m (asking q)
 saying st before m (commanding p e c b) =
     let o = run m (commanding p e c b) in
     outcome (o .number) (lend (completionOf p (readCommand e) st 0) (o .after .buffer) (o .after .memory))
@@ -87,7 +87,7 @@ saying st before m (commanding p e c b) =
 -- but for the memory after a command
 abbrev pub staying : Device
 staying before m (formatting l) = run m (formatting l)
-staying before m (polling n) = run m (polling n)
+staying before m (asking q) = run m (asking q)
 staying before m (commanding p e c b) =
     let o = run m (commanding p e c b) in
     outcome (o .number) (lend (o .after .completion) (o .after .buffer) m)
@@ -95,7 +95,7 @@ staying before m (commanding p e c b) =
 -- until a command was among the calls
 abbrev pub resting : Device
 resting before m (formatting l) = run m (formatting l)
-resting before m (polling n) = run m (polling n)
+resting before m (asking q) = run m (asking q)
 resting before m (commanding p e c b) =
     let o = run m (commanding p e c b) in
     cond (commanded before && eqb (o .number) 0) (outcome 0 (lend (completionOf p (readCommand e) 0 0) b m)) o

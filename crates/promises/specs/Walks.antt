@@ -6,7 +6,7 @@ use mathlib.Core.List.{List, [], _∷_, _++_}
 use Prim.Native.Nat.{ℕ, _+_, _≤_}
 use lib.ListN.{length}
 use Rattle.octets.specs.Octets.{same}
-use Rattle.octets.specs.Keys.{Key}
+use Rattle.keys.specs.Keys.{Key}
 use Rattle.wire.specs.Page.{Reading, refused, keys, behind, readPage}
 use Rattle.store.specs.Namespace.{Namespace}
 use Rattle.memory.specs.Memory.{Memory}

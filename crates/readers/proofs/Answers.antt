@@ -18,12 +18,14 @@ use Rattle.memory.proofs.ImageLaws.{Holds}
 use Rattle.commands.specs.Answer.{answer, pairsAfter}
 use Rattle.commands.specs.Command.{Post, completionOf, Outcome}
 use Rattle.commands.proofs.CommandLaws.{serve-is, command-0, command-1, command-2}
-use Rattle.room.specs.Room.{filledBy, noRoom}
-use Rattle.room.proofs.PollLaws.{room-held}
-use Rattle.module.specs.History.{Call, formatting, commanding, polling, lend, run, succeeded, changed, told}
+use Rattle.maps.specs.declared.describes.Described.{Described}
+use Rattle.maps.specs.Describe.{described, undescribed}
+use Rattle.maps.proofs.DescribeLaws.{describe-held}
+use Rattle.module.specs.History.{idOf, tell, Call, formatting, commanding, asking, lend, run, succeeded, changed, told}
+use Rattle.module.proofs.HistoryLaws.{ask-is}
 use Rattle.farms.specs.Sides.{real}
 use Rattle.farms.specs.Alone.{refusal}
-use Rattle.readers.specs.Orders.{Given, returned, polled, given, named}
+use Rattle.readers.specs.Orders.{Given, returned, learnt, given, named}
 
 -- ---- what a call hands back
 
@@ -37,7 +39,7 @@ replied p e c b s =
 abbrev alone : Call → Namespace → Given
 alone (formatting l) s = returned 0 [] []
 alone (commanding p e c b) s = replied p e c b s
-alone (polling n) s = polled (cond (eqb n (s .id)) (filledBy (s .pairs)) (noRoom 23))
+alone (asking q) s = learnt (tell (cond (eqb (idOf q) (s .id)) (described s) (undescribed 23)) q)
 
 module _ (ss : List Namespace) (m : Memory) (h : Holds ss m) where
   pub replied-is : (p : Post) (e c b : List ℕ) → given real m (commanding p e c b) ≡ replied p e c b (at (readCommand e .nsid) ss)
@@ -56,9 +58,10 @@ module _ (ss : List Namespace) (m : Memory) (h : Holds ss m) where
   given-is n (formatting l) e = absurd (contrary e)
   given-is n (commanding p e c b) f =
       replied-is p e c b ∙ ap (λ (j : ℕ). replied p e c b (at j ss)) (sym (eqb-true n (readCommand e .nsid) f))
-  given-is n (polling k) f =
-      ap polled (room-held k h ∙ ap (λ (z : Bool). cond z (filledBy (at k ss .pairs)) (noRoom 23)) (sym (at-id k ss)))
-      ∙ ap (λ (j : ℕ). alone (polling k) (at j ss)) (sym (eqb-true n k f))
+  given-is n (asking q) f =
+      let k = idOf q in
+      let d = describe-held k h ∙ ap (λ (z : Bool). cond z (described (at k ss)) (undescribed 23)) (sym (at-id k ss)) in
+      ap learnt (ask-is m q ∙ ap (λ (x : Described). tell x q) d) ∙ ap (λ (j : ℕ). alone (asking q) (at j ss)) (sym (eqb-true n k f))
 
 -- so it is the same wherever n names the same
 pub given-same : (n : ℕ) (ss ts : List Namespace) (m k : Memory) (x : Call) → Holds ss m → Holds ts k → at n ss ≡ at n ts → named n x ≡ true
@@ -68,25 +71,25 @@ given-same n ss ts m k x h g e f = given-is ss m h n x f ∙ ap (alone x) e ∙ 
 -- the status in its completion
 abbrev pub statusIn : Given → ℕ
 statusIn (returned n c b) = readCompletion c .status
-statusIn (polled r) = 0
+statusIn (learnt r) = 0
 
 -- ---- what it tells of what is stored
 
 abbrev done : Given → Bool
 done (returned n c b) = eqb n 0 && eqb (readCompletion c .status) 0
-done (polled r) = false
+done (learnt r) = false
 
 -- what is told goes by what is handed back
 pub told-given : (n : ℕ) (ss : List Namespace) (m k : Memory) (x : Call) → named n x ≡ true → given real m x ≡ given real k x
     → told ss x (run m x) ≡ told ss x (run k x)
 told-given n ss m k (formatting l) f e = absurd (contrary f)
 told-given n ss m k (commanding p e c b) f g = ap (λ (v : Given). cond (done v) (changed (readCommand e) b ss) ss) g
-told-given n ss m k (polling i) f e = refl
+told-given n ss m k (asking q) f e = refl
 
 -- another's call leaves what i names
 pub told-other : (i j : ℕ) (ss : List Namespace) (x : Call) (o : Outcome) → ¬ (i ≡ j) → named j x ≡ true → at i (told ss x o) ≡ at i ss
 told-other i j ss (formatting l) o d f = absurd (contrary f)
-told-other i j ss (polling k) o d f = refl
+told-other i j ss (asking k) o d f = refl
 told-other i j ss (commanding p e c b) o d f = go (succeeded o)
   where
     go : (z : Bool) → at i (cond z (changed (readCommand e) b ss) ss) ≡ at i ss
@@ -97,9 +100,9 @@ told-other i j ss (commanding p e c b) o d f = go (succeeded o)
 pub told-either : (i j : ℕ) (ss : List Namespace) (x y : Call) (o q : Outcome) → ¬ (i ≡ j) → named i x ≡ true → named j y ≡ true
     → told (told ss x o) y q ≡ told (told ss y q) x o
 told-either i j ss (formatting l) y o q d f g = absurd (contrary f)
-told-either i j ss (polling n) y o q d f g = refl
+told-either i j ss (asking n) y o q d f g = refl
 told-either i j ss (commanding p e c b) (formatting l) o q d f g = absurd (contrary g)
-told-either i j ss (commanding p e c b) (polling n) o q d f g = refl
+told-either i j ss (commanding p e c b) (asking n) o q d f g = refl
 told-either i j ss (commanding p e c b) (commanding r s t u) o q d f g = go (succeeded o) (succeeded q)
   where
     n : ℕ

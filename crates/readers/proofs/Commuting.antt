@@ -9,7 +9,7 @@ use Rattle.octets.proofs.TestLaws.{contrary}
 use Rattle.store.specs.Namespace.{Namespace}
 use Rattle.memory.specs.Memory.{Memory, namespacesOf, legal}
 use Rattle.memory.proofs.ImageLaws.{Holds, holds-legal, legal-holds}
-use Rattle.module.specs.History.{Call, formatting, commanding, polling, run, told, formats}
+use Rattle.module.specs.History.{Call, formatting, commanding, asking, run, told, formats}
 use Rattle.module.proofs.HistoryLaws.{told-call}
 use Rattle.farms.specs.Sides.{real, next}
 use Rattle.promises.specs.Histories.{Start, begun, memoryAfter, storedAfter, never}
@@ -31,10 +31,10 @@ none-formats : (i j : ℕ) (m : Memory) (x y : Call) → named i x ≡ true → 
 none-formats i j m (formatting l) y f g = absurd (contrary f)
 none-formats i j m (commanding p e c b) (formatting l) f g = absurd (contrary g)
 none-formats i j m (commanding p e c b) (commanding q r s t) f g = refl
-none-formats i j m (commanding p e c b) (polling k) f g = refl
-none-formats i j m (polling n) (formatting l) f g = absurd (contrary g)
-none-formats i j m (polling n) (commanding q r s t) f g = refl
-none-formats i j m (polling n) (polling k) f g = refl
+none-formats i j m (commanding p e c b) (asking k) f g = refl
+none-formats i j m (asking n) (formatting l) f g = absurd (contrary g)
+none-formats i j m (asking n) (commanding q r s t) f g = refl
+none-formats i j m (asking n) (asking k) f g = refl
 
 -- another's call changes nothing that is handed back
 unseen : (i j : ℕ) (ss : List Namespace) (m : Memory) (x y : Call) → Holds ss m → ¬ (i ≡ j) → named i x ≡ true → named j y ≡ true

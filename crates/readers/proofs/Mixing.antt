@@ -10,12 +10,13 @@ use Rattle.octets.proofs.TestLaws.{contrary}
 use Rattle.octets.specs.Octets.{zeros}
 use Rattle.wire.specs.Entry.{readCommand}
 use Rattle.memory.specs.Memory.{Memory, legal}
+use Rattle.maps.specs.Describe.{describe}
 use Rattle.room.specs.Room.{room}
-use Rattle.module.specs.History.{Call, formatting, commanding, polling}
+use Rattle.module.specs.History.{polling, idOf, filled, Call, formatting, commanding, asking}
 use Rattle.farms.specs.Sides.{Device, real, next}
 use Rattle.promises.specs.Requests.{call}
 use Rattle.promises.proofs.Examples.{onMap, onMemory, startTwo, two-begun, A, store, storeTwo}
-use Rattle.readers.specs.Orders.{Given, returned, polled, given, named, Commutes}
+use Rattle.readers.specs.Orders.{Given, returned, learnt, given, named, Commutes}
 use Rattle.readers.specs.Mixing.{Mixed, ended, one, other, Only, goes, shown, Alike, Mixes, Keeps}
 use Rattle.readers.proofs.Commuting.{legal-after, commutes, keeps, both}
 
@@ -23,7 +24,7 @@ use Rattle.readers.proofs.Commuting.{legal-after, commutes, keeps, both
 one-name : (i j : ℕ) (x : Call) → ¬ (i ≡ j) → named i x ≡ true → named j x ≡ false
 one-name i j (formatting l) d f = absurd (contrary f)
 one-name i j (commanding p e c b) d f = ne-eqb j (readCommand e .nsid) (λ g. d (eqb-true i (readCommand e .nsid) f ∙ sym g))
-one-name i j (polling n) d f = ne-eqb j n (λ g. d (eqb-true i n f ∙ sym g))
+one-name i j (asking q) d f = ne-eqb j (idOf q) (λ g. d (eqb-true i (idOf q) f ∙ sym g))
 
 module _ (d : Device) (kept : Keeps d) (two : Commutes d) where
   -- a call of j moves past calls of i
@@ -69,16 +70,16 @@ mixes = any-mixes real keeps commutes
 -- ---- an instance: one farm stores and polls, the other stores the same key, in two mixings
 
 abbrev ours : List Call
-ours = call (store A (5 ∷ [])) ∷ polling 1 ∷ []
+ours = call (store A (5 ∷ [])) ∷ asking (polling 1) ∷ []
 
 abbrev theirs : List Call
 theirs = call (storeTwo A (6 ∷ 6 ∷ [])) ∷ []
 
 abbrev first : List Call
-first = call (storeTwo A (6 ∷ 6 ∷ [])) ∷ call (store A (5 ∷ [])) ∷ polling 1 ∷ []
+first = call (storeTwo A (6 ∷ 6 ∷ [])) ∷ call (store A (5 ∷ [])) ∷ asking (polling 1) ∷ []
 
 abbrev between : List Call
-between = call (store A (5 ∷ [])) ∷ call (storeTwo A (6 ∷ 6 ∷ [])) ∷ polling 1 ∷ []
+between = call (store A (5 ∷ [])) ∷ call (storeTwo A (6 ∷ 6 ∷ [])) ∷ asking (polling 1) ∷ []
 
 mixed : Alike real 1 2 both first between
 unfolding onMap
@@ -86,9 +87,9 @@ mixed =
     mixes both 1 2 ours theirs first between (legal-after (startTwo 7) [] (two-begun 7)) (λ e. omega arith) (refl, (refl, tt)) (refl, tt)
     (other (one (one ended))) (one (other (one ended)))
 
-first-shown : shown real 1 both first ≡ returned 0 (zeros 16) (5 ∷ []) ∷ polled (record { number = 0; used = 2; keys = 1 }) ∷ []
-unfolding onMemory room
+first-shown : shown real 1 both first ≡ returned 0 (zeros 16) (5 ∷ []) ∷ learnt (filled (record { number = 0; used = 2; keys = 1 })) ∷ []
+unfolding onMemory room describe
 first-shown = refl
 
-between-shown : shown real 1 both between ≡ returned 0 (zeros 16) (5 ∷ []) ∷ polled (record { number = 0; used = 2; keys = 1 }) ∷ []
+between-shown : shown real 1 both between ≡ returned 0 (zeros 16) (5 ∷ []) ∷ learnt (filled (record { number = 0; used = 2; keys = 1 })) ∷ []
 between-shown = sym (mixed .one) ∙ first-shown

@@ -7,10 +7,10 @@ use mathlib.Core.Option.{Option, none, some}
 use Prim.Native.Nat.{ℕ}
 use lib.ListN.{take}
 use Rattle.octets.specs.Octets.{same}
-use Rattle.octets.specs.Keys.{Key}
+use Rattle.keys.specs.Keys.{Key}
 use Rattle.octets.proofs.TestLaws.{Known, known, holds, fails, contrary}
 use Rattle.octets.proofs.ZeroLaws.{true-same, same-true}
-use Rattle.octets.proofs.OrderLaws.{Rising}
+use Rattle.keys.proofs.OrderLaws.{Rising}
 use Rattle.wire.specs.declared.entries.Command.{Command}
 use Rattle.wire.specs.Entry.{keyOf, isStore, isDelete}
 use Rattle.store.specs.Maps.{Pair, keys, lookup, insert, erase}

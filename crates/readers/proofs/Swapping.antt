@@ -9,9 +9,9 @@ use Rattle.octets.specs.Octets.{zeros}
 use lib.ListN.{replicate}
 use lib.Dec.{eqb}
 use borrow.Author.Tests.{eqb-true, eq-eqb}
-use Rattle.octets.specs.Keys.{Key}
+use Rattle.keys.specs.Keys.{Key}
 use Rattle.octets.proofs.TestLaws.{both}
-use Rattle.octets.proofs.OrderLaws.{Rising}
+use Rattle.keys.proofs.OrderLaws.{Rising}
 use Rattle.wire.specs.Entry.{keyOf}
 use Rattle.store.specs.Maps.{keys}
 use Rattle.store.specs.Namespace.{Namespace}

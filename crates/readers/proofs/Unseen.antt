@@ -6,9 +6,9 @@ use Prim.Native.Nat.{ℕ}
 use lib.ListN.{length}
 use lib.Dec.{eqb}
 use borrow.Author.Tests.{eqb-true}
-use Rattle.octets.specs.Keys.{Key}
+use Rattle.keys.specs.Keys.{Key}
 use Rattle.octets.proofs.TestLaws.{Known, known, holds, fails}
-use Rattle.octets.proofs.OrderLaws.{Rising}
+use Rattle.keys.proofs.OrderLaws.{Rising}
 use Rattle.wire.specs.declared.entries.Command.{Command}
 use Rattle.wire.specs.Entry.{keyOf, isStore, isRetrieve, isList, isDelete}
 use Rattle.store.specs.Maps.{Pair, keys, lookup}

@@ -2,12 +2,11 @@
 -- Assumes nothing.
 use mathlib.Core.Bool.{cond}
 use Rattle.octets.specs.Octets.{put}
-use Rattle.octets.specs.Keys.{Key}
+use Rattle.keys.specs.Keys.{Key}
 use Rattle.wire.specs.Entry.{readCommand, keyOf}
 use Rattle.memory.specs.Memory.{Memory, memory, needed, namespacesOf}
 use Rattle.commands.specs.Command.{Outcome, outcome}
-use Rattle.room.specs.Room.{room}
-use Rattle.module.specs.History.{Call, formatting, commanding, polling, lend, run, succeeded}
+use Rattle.module.specs.History.{ask, Call, formatting, commanding, asking, lend, run, succeeded}
 use Rattle.farms.specs.Sides.{Device}
 
 abbrev pub marked : Key → Memory → Memory
@@ -19,7 +18,7 @@ marking m (commanding p e c b) =
     let o = run m (commanding p e c b) in
     let a = o .after in
     cond (succeeded o) (outcome 0 (lend (a .completion) (a .buffer) (marked (keyOf (readCommand e)) (a .memory)))) o
-marking m (polling n) = run m (polling n)
+marking m (asking q) = run m (asking q)
 
 abbrev pub marks : Device
-marks = record { does = marking; room = room }
+marks = record { does = marking; tells = ask }

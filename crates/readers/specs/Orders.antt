@@ -5,20 +5,19 @@ use mathlib.Core.Bool.{Bool, true, false}
 use mathlib.Core.List.{List}
 use Prim.Native.Nat.{ℕ}
 use lib.Dec.{eqb}
-use Rattle.octets.specs.Keys.{Key}
+use Rattle.keys.specs.Keys.{Key}
 use Rattle.wire.specs.Entry.{readCommand, keyOf}
 use Rattle.memory.specs.Memory.{Memory, legal}
 use Rattle.commands.specs.Command.{Outcome}
-use Rattle.room.specs.declared.polls.Room.{Room}
-use Rattle.module.specs.History.{Call, formatting, commanding, polling, succeeded, status}
+use Rattle.module.specs.History.{idOf, Told, Call, formatting, commanding, asking, succeeded, status}
 use Rattle.farms.specs.Sides.{Device, next}
 use Rattle.promises.specs.Histories.{writes}
 use Rattle.promises.specs.Requests.{Request, call, asked}
 
--- what a call hands back: the number, and completion and data buffer as they stand afterwards, whole; a poll, its answer
+-- what a call hands back: the number, and completion and data buffer as they stand afterwards, whole; a question, its answer
 pub data Given : Type 0 where
   returned : ℕ → List ℕ → List ℕ → Given
-  polled : Room → Given
+  learnt : Told → Given
 
 abbrev pub handed : Outcome → Given
 handed o = returned (o .number) (o .after .completion) (o .after .buffer)
@@ -26,7 +25,7 @@ handed o = returned (o .number) (o .after .completion) (o .after .buffer)
 abbrev pub given : Device → Memory → Call → Given
 given d m (formatting l) = handed (d .does m (formatting l))
 given d m (commanding p e c b) = handed (d .does m (commanding p e c b))
-given d m (polling n) = polled (d .room n m)
+given d m (asking q) = learnt (d .tells m q)
 
 -- x before y, or y before x: each hands back the same, and memory is left the same, byte by byte
 pub record EitherOrder (d : Device) (m : Memory) (x y : Call) : Type 0 where
@@ -75,11 +74,11 @@ RoomTells d =
 
 -- ---- on different namespaces
 
--- a command or a poll that names n; a formatting names none
+-- a command or a question that names n; a formatting names none
 abbrev pub named : ℕ → Call → Bool
 named n (formatting l) = false
 named n (commanding p e c b) = eqb n (readCommand e .nsid)
-named n (polling k) = eqb n k
+named n (asking q) = eqb n (idOf q)
 
 -- request [14]: whether they succeed or not, and whether there are namespaces i and j or not
 abbrev pub Commutes : Device → Type 0

@@ -1,11 +1,11 @@
 -- How full a namespace is. Assumes nothing.
-use mathlib.Core.Bool.{cond}
 use mathlib.Core.List.{List}
 use Prim.Native.Nat.{ℕ}
 use lib.ListN.{length}
 use Rattle.store.specs.Maps.{Pair, used}
-use Rattle.memory.specs.Namespaces.{held}
-use Rattle.memory.specs.Memory.{Memory, namespacesOf, pairsAt, legal}
+use Rattle.memory.specs.Memory.{Memory}
+use Rattle.maps.specs.declared.describes.Described.{Described}
+use Rattle.maps.specs.Describe.{describe}
 use Rattle.room.specs.declared.polls.Room.{Room}
 
 -- the used room of a map, and how many keys it has
@@ -16,6 +16,9 @@ filledBy m = record { number = 0; used = used m; keys = length m }
 abbrev pub noRoom : ℕ → Room
 noRoom n = record { number = n; used = 0; keys = 0 }
 
--- number 18 where memory is not legal, then 23 where the id names none
+-- of what is told of a namespace
+abbrev pub roomOf : Described → Room
+roomOf d = record { number = d .number; used = d .used; keys = d .keys }
+
 unfoldable pub room : ℕ → Memory → Room
-room id m = cond (legal m) (cond (held id (namespacesOf m)) (filledBy (pairsAt id m)) (noRoom 23)) (noRoom 18)
+room id m = roomOf (describe id m)

@@ -5,14 +5,14 @@ use mathlib.Core.List.{List, [], _∷_, _++_}
 use Prim.Native.Nat.{ℕ, _+_, _-_}
 use lib.ListN.{length}
 use lib.Dec.{leb, ltb, eqb}
-use Rattle.octets.specs.Keys.{Key}
+use Rattle.keys.specs.Keys.{Key}
 use Rattle.octets.specs.Tests.{Row, row, firstOf}
 use Rattle.wire.specs.declared.entries.Command.{Command}
 use Rattle.wire.specs.Entry.{keyOf, stale, isStore, isRetrieve, isList, isDelete, isExist, known, ifPresent, ifAbsent}
 use Rattle.rules.specs.declared.steps.View.{View}
 use Rattle.rules.specs.declared.steps.Stock.{Stock}
 use Rattle.rules.specs.declared.steps.Row.{Row as CodeRow}
-use Rattle.store.specs.Formats.{formatOf}
+use Rattle.table.specs.Formats.{formatOf}
 use Rattle.store.specs.Maps.{present, used, heldRoom}
 use Rattle.store.specs.Namespace.{Namespace}
 

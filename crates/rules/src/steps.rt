@@ -1,7 +1,7 @@
 // Steps a to j: the table of `specs/Steps.antt`. Those to h are an array of rows that computes to it; the three that are left are asked one
 // after the other.
-use octets::keys::ends_clear;
-use store::formats::Format;
+use keys::orders::ends_clear;
+use table::formats::Format;
 use wire::entries::Command;
 use wire::entries::DELETE;
 use wire::entries::EXIST;

@@ -5,8 +5,8 @@ use mathlib.Core.List.{List, [], _∷_}
 use Prim.Native.Nat.{ℕ, suc, _+_, _≤_}
 use native.Mathlib.Omega.{arith}
 use lib.ListN.{length}
-use Rattle.octets.specs.Keys.{Key}
-use Rattle.octets.proofs.OrderLaws.{compared, less, equal, greater, order-eq}
+use Rattle.keys.specs.Keys.{Key}
+use Rattle.keys.proofs.OrderLaws.{compared, less, equal, greater, order-eq}
 use Rattle.store.specs.Maps.{Pair, insert, erase, present, used, heldRoom}
 use Rattle.store.specs.Namespace.{Namespace, withPairs}
 use Rattle.store.proofs.MapLaws.{erase-rising}

@@ -6,10 +6,10 @@ use Prim.Native.Nat.{ℕ, _*_}
 use native.Mathlib.Omega.{arith}
 use Rattle.octets.proofs.TestLaws.{all-true, true-all, contrary}
 use Rattle.octets.proofs.ZeroLaws.{true-same, same-true}
-use Rattle.octets.proofs.OrderLaws.{true-rising}
+use Rattle.keys.proofs.OrderLaws.{true-rising}
 use Rattle.store.specs.declared.namespaces.Label.{Label}
 use Rattle.store.specs.declared.checks.Sums.{Sums}
-use Rattle.store.specs.Formats.{slots}
+use Rattle.table.specs.Formats.{slots}
 use Rattle.store.specs.Maps.{Pair, keys}
 use Rattle.store.specs.Records.{pairsIn}
 use Rattle.store.specs.Parts.{labelled, Holds}

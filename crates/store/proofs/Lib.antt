@@ -2,7 +2,7 @@
 pub mod MapLaws
 pub mod CountLaws
 pub mod NamespaceLaws
-mod RecordLaws
+pub mod RecordLaws
 pub mod PartsLaws
 pub mod RankLaws
 pub mod SlotLaws

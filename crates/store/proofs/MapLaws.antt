@@ -4,9 +4,9 @@ use mathlib.Core.List.{List, [], _∷_}
 use mathlib.Core.Option.{none, some, Option·some-injective}
 use Prim.Native.Nat.{ℕ}
 use native.Mathlib.Omega.{arith}
-use Rattle.octets.specs.Keys.{Key}
-use Rattle.octets.proofs.OrderLaws.{compared, less, equal, greater}
-use Rattle.octets.proofs.OrderLaws.{Below, BelowFirst, Rising, order-self, order-eq, below-trans, greater-below, below-first-trans}
+use Rattle.keys.specs.Keys.{Key}
+use Rattle.keys.proofs.OrderLaws.{compared, less, equal, greater}
+use Rattle.keys.proofs.OrderLaws.{Below, BelowFirst, Rising, order-self, order-eq, below-trans, greater-below, below-first-trans}
 use Rattle.store.specs.Maps.{Pair, keys, lookup, insert, erase}
 
 -- a key below the first is not stored

@@ -9,11 +9,11 @@ use native.Mathlib.Omega.{arith}
 use lib.ListN.{length}
 use lib.Dec.{leb, ltb, eqb}
 use borrow.Author.Tests.{leb-true, leb-false, ltb-false, eqb-true, eqb-false, le-leb, lt-leb, le-ltb, ne-eqb}
-use Rattle.octets.specs.Keys.{Key}
+use Rattle.keys.specs.Keys.{Key}
 use Rattle.octets.specs.Tests.{firstOf}
 use Rattle.octets.proofs.TestLaws.{all-true, neither, None, none-holds, none-first}
-use Rattle.octets.proofs.OrderLaws.{Rising, compared, less, equal, greater, rising-true, true-rising}
-use Rattle.store.specs.Formats.{formatOf}
+use Rattle.keys.proofs.OrderLaws.{Rising, compared, less, equal, greater, rising-true, true-rising}
+use Rattle.table.specs.Formats.{formatOf}
 use Rattle.store.specs.Maps.{Pair, keys, insert, erase, used}
 use Rattle.store.specs.Namespace.{Namespace, fresh, permitSteps, pairTests, admitted, limits, within}
 

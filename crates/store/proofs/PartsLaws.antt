@@ -9,7 +9,7 @@ use lib.Seq.{take-append-seam, drop-append-seam}
 use Rattle.octets.specs.Octets.{zeros}
 use Rattle.octets.proofs.ZeroLaws.{length-filled}
 use Rattle.store.specs.declared.namespaces.Label.{Label}
-use Rattle.store.specs.Formats.{slots}
+use Rattle.table.specs.Formats.{slots}
 use Rattle.store.specs.Maps.{Pair, used, values}
 use Rattle.store.specs.Records.{recordOf, recordsOf, recordsPart, valuesPart, valueLength, pairsIn}
 use Rattle.store.specs.Parts.{labelled, Recorded, Holds}

@@ -8,10 +8,10 @@ use lib.Dec.{ltb, leb·suc-suc}
 use lib.ListN.{length, take, drop, getD}
 use lib.Seq.{drop-drop}
 use borrow.Author.Tests.{lt-ltb, le-ltb}
-use Rattle.octets.specs.Keys.{Key, order, isLess, isEqual, from}
+use Rattle.keys.specs.Keys.{Key, order, isLess, isEqual, from}
 use Rattle.octets.proofs.TestLaws.{contrary}
-use Rattle.octets.proofs.OrderLaws.{compared, less, equal, greater}
-use Rattle.octets.proofs.OrderLaws.{Below, Rising, order-eq, order-flip, below-trans, below-greater, greater-below, below-first-trans}
+use Rattle.keys.proofs.OrderLaws.{compared, less, equal, greater}
+use Rattle.keys.proofs.OrderLaws.{Below, Rising, order-eq, order-flip, below-trans, below-greater, greater-below, below-first-trans}
 use Rattle.store.specs.Maps.{Pair, pair, keys, insert, erase, present, valueOf}
 use Rattle.store.specs.Records.{keyLength, valueLength, pairsIn}
 use Rattle.store.specs.Parts.{inserted, erased}

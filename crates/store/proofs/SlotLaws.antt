@@ -13,7 +13,7 @@ use Rattle.store.specs.Maps.{Pair, pair, values}
 use Rattle.store.specs.Records.{recordOf, recordsOf, recordsPart, valuesPart, keyLength, place, valueLength, valueIn}
 use Rattle.store.specs.Parts.{Recorded, Holds, inserted, erased}
 use Rattle.store.specs.Finds.{KeyFits}
-use Rattle.store.specs.Verbs.{pairAt}
+use Rattle.store.specs.Slots.{pairAt}
 use Rattle.store.proofs.RecordLaws.{sixteen-in, key-length-in, place-in, value-length-in}
 use Rattle.store.proofs.PartsLaws.{length-records, values-append, records-append}
 

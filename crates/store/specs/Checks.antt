@@ -5,15 +5,15 @@ use mathlib.Core.List.{List, [], _∷_}
 use Prim.Native.Nat.{ℕ, zero, suc, _+_, _*_, _≤_}
 use lib.ListN.{length, drop}
 use lib.Dec.{leb, eqb}
-use Rattle.octets.specs.declared.keys.Wide.{Wide}
+use Rattle.keys.specs.declared.orders.Wide.{Wide}
 use Rattle.octets.specs.Octets.{same}
-use Rattle.octets.specs.Keys.{isLess, orderWide, clearWide}
+use Rattle.keys.specs.Keys.{isLess, orderWide, clearWide}
 use Rattle.octets.specs.Tests.{all, firstOf}
-use Rattle.store.specs.declared.formats.Format.{Format}
+use Rattle.table.specs.declared.formats.Format.{Format}
 use Rattle.store.specs.declared.namespaces.Label.{Label}
 use Rattle.store.specs.declared.checks.Sums.{Sums}
 use Rattle.store.specs.declared.checks.Slot.{Slot}
-use Rattle.store.specs.Formats.{formatOf, slots}
+use Rattle.table.specs.Formats.{formatOf, slots}
 use Rattle.store.specs.Maps.{Pair, values, used}
 use Rattle.store.specs.Namespace.{permitSteps, within}
 use Rattle.store.specs.Records.{recordsPart, valuesPart, keyLength, place, valueLength, owner, wideIn, pairsIn}

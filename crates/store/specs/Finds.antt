@@ -5,7 +5,7 @@ use mathlib.Core.List.{List, [], _∷_}
 use Prim.Native.Nat.{ℕ, zero, suc, _*_, _≤_, _<_}
 use lib.ListN.{length, take, drop}
 use Rattle.octets.specs.Octets.{part}
-use Rattle.octets.specs.Keys.{Key, order, three, rising, Padded}
+use Rattle.keys.specs.Keys.{Key, order, three, rising, Padded}
 use Rattle.store.specs.declared.finds.Found.{Found}
 use Rattle.store.specs.Records.{keyLength}
 

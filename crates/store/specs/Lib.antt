@@ -1,8 +1,7 @@
-pub mod Formats
 pub mod Maps
 pub mod Namespace
 pub mod Records
 pub mod Parts
 pub mod Checks
 pub mod Finds
-pub mod Verbs
+pub mod Slots

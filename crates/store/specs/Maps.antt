@@ -4,7 +4,7 @@ use mathlib.Core.List.{List, [], _∷_, _++_}
 use mathlib.Core.Option.{Option, none, some, Option·getD}
 use Prim.Native.Nat.{ℕ, _+_}
 use lib.ListN.{length}
-use Rattle.octets.specs.Keys.{Key, order, three}
+use Rattle.keys.specs.Keys.{Key, order, three}
 
 pub record Pair : Type 0 where
   pub key : Key

@@ -5,8 +5,8 @@ use Prim.Native.Nat.{ℕ}
 use lib.ListN.{length}
 use lib.Dec.{leb, ltb, eqb}
 use Rattle.octets.specs.Tests.{all, Row, row, firstOf}
-use Rattle.octets.specs.Keys.{rising}
-use Rattle.store.specs.Formats.{formatOf}
+use Rattle.keys.specs.Keys.{rising}
+use Rattle.table.specs.Formats.{formatOf}
 use Rattle.store.specs.Maps.{Pair, keys, used}
 
 pub record Namespace : Type 0 where

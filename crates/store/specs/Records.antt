@@ -5,9 +5,9 @@
 use mathlib.Core.List.{List, [], _∷_, _++_}
 use Prim.Native.Nat.{ℕ, zero, suc, _+_}
 use lib.ListN.{length, take, drop}
-use Rattle.octets.specs.declared.keys.Wide.{Wide}
+use Rattle.keys.specs.declared.orders.Wide.{Wide}
 use Rattle.octets.specs.Octets.{part, number, bytes, filled}
-use Rattle.octets.specs.Keys.{wideOf}
+use Rattle.keys.specs.Keys.{wideOf}
 use Rattle.store.specs.Maps.{Pair, pair, values}
 
 -- ---- the image of pairs

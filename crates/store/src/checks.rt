@@ -1,15 +1,15 @@
 // Whether two parts are the image of a map, found in one pass over the records, with the sums that the pass has made.
-use crate::formats::Format;
 use crate::namespaces::Label;
 use crate::records::key_length_at;
 use crate::records::owner_at;
 use crate::records::place_at;
 use crate::records::value_length_at;
-use octets::keys::Wide;
-use octets::keys::is_clear;
-use octets::keys::less;
-use octets::keys::widen;
+use keys::orders::Wide;
+use keys::orders::is_clear;
+use keys::orders::less;
+use keys::orders::widen;
 use octets::runs::all_zero;
+use table::formats::Format;
 ghost use mathlib.Core.Path.{_≡_};
 ghost use Prim.Native.Nat.{_+_, _*_, _≤_};
 ghost use lib.ListN.{length, drop};

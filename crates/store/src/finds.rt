@@ -1,10 +1,10 @@
 // A key among the records, which stand in key order.
 use crate::records::wide_at;
-use octets::keys::equal;
-use octets::keys::less;
-use octets::keys::widen;
+use keys::orders::equal;
+use keys::orders::less;
+use keys::orders::widen;
 ghost use mathlib.Core.Path.{_≡_};
-ghost use Rattle.octets.specs.Keys.{Padded};
+ghost use Rattle.keys.specs.Keys.{Padded};
 ghost use Rattle.store.specs.Finds.{keysIn, found, KeysFit};
 
 // A key with the slot of the first record that is not below it, and whether that one holds it.

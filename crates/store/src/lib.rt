@@ -2,8 +2,6 @@
 // namespace's numbers by value: where the parts lie is not known here.
 pub mod checks;
 pub mod finds;
-pub mod formats;
 pub mod namespaces;
 pub mod reads;
 pub mod records;
-pub mod verbs;

@@ -8,7 +8,7 @@ ghost use Prim.Native.Nat.{_*_};
 ghost use lib.ListN.{take, drop};
 ghost use Rattle.octets.specs.Octets.{put};
 ghost use Rattle.store.specs.Records.{valueLength, valueIn};
-ghost use Rattle.store.specs.Verbs.{CanCopy};
+ghost use Rattle.store.specs.Slots.{CanCopy};
 
 // The value of a slot is a part of the values that starts in their middle, handed on to the copying function: the smaller of
 // `amount` and its length. The answer is its whole length.

@@ -1,6 +1,6 @@
 // The records: the fields of one, one written whole, and the places of values in many of them.
-use octets::keys::Wide;
-use octets::keys::widen;
+use keys::orders::Wide;
+use keys::orders::widen;
 use octets::runs::clear;
 use octets::runs::copy_at;
 use octets::words::read32;
@@ -11,7 +11,7 @@ ghost use lib.ListN.{length, drop};
 ghost use Rattle.octets.specs.Octets.{put};
 ghost use Rattle.store.specs.Maps.{pair};
 ghost use Rattle.store.specs.Records.{keyLength, place, valueLength, owner, wideIn, recordOf};
-ghost use Rattle.store.specs.Verbs.{raised};
+ghost use Rattle.store.specs.Slots.{raised};
 
 pub fn key_length_at(records: &[u8], slot: u32) -> u32
     requires { ⌜ 32 * slot + 32 ≤ length (now records) ⌝ }

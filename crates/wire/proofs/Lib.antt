@@ -2,3 +2,4 @@
 pub mod EntryLaws
 pub mod CompletionLaws
 pub mod PageLaws
+pub mod IdentifyLaws

@@ -11,11 +11,11 @@ use lib.Seq.{drop-at, take-at, take-all, length-take-le}
 use lib.Dec.{ltb, eqb, leb}
 use borrow.Author.Tests.{le-ltb, ne-eqb, ltb-false, eqb-false, lt-ltb, leb-true, le-leb, lt-leb}
 use Rattle.octets.specs.Octets.{part, put, number, bytes, zeros, filled, allZero}
-use Rattle.octets.specs.Keys.{Key, below}
+use Rattle.keys.specs.Keys.{Key, below}
 use Rattle.octets.proofs.PartLaws.{part-seam, part-take, part-two, part-whole, drop-past, put-none, put-then, put-part, put-next, put-ahead}
 use Rattle.octets.proofs.NumberLaws.{Bytes, number-bytes, bytes-in}
 use Rattle.octets.proofs.ZeroLaws.{zeros-all, part-filled}
-use Rattle.octets.proofs.OrderLaws.{Below, BelowFirst, Rising}
+use Rattle.keys.proofs.OrderLaws.{Below, BelowFirst, Rising}
 use Rattle.octets.proofs.TestLaws.{neither, none-holds, known, holds, fails}
 use Rattle.wire.specs.Page.{entrySize, padding, pageEntry, entries, page, firstEntry, keys, readEntries, readPage, entrySteps, fits}
 use Rattle.wire.specs.declared.pages.PageEntry.{PageEntry}

@@ -5,7 +5,7 @@ use Prim.Native.Nat.{ℕ, _/_, _%_}
 use lib.Dec.{eqb}
 use lib.ListN.{length, take, drop, getD}
 use Rattle.octets.specs.Octets.{part, number, bytes, zeros, allZero}
-use Rattle.octets.specs.Keys.{Key}
+use Rattle.keys.specs.Keys.{Key}
 use Rattle.octets.specs.Tests.{Row, row}
 use Rattle.wire.specs.declared.entries.Command.{Command}
 

@@ -5,7 +5,7 @@ use Prim.Native.Nat.{ℕ, zero, suc, _+_, _-_, _*_, _/_}
 use lib.Dec.{leb, ltb, eqb}
 use lib.ListN.{length, drop}
 use Rattle.octets.specs.Octets.{part, number, bytes, zeros, allZero}
-use Rattle.octets.specs.Keys.{Key, below, from}
+use Rattle.keys.specs.Keys.{Key, below, from}
 use Rattle.octets.specs.Tests.{Row, row, firstOf}
 use Rattle.wire.specs.declared.pages.PageEntry.{PageEntry}
 

@@ -10,13 +10,13 @@ use borrow.Rule.Slice.PartMut.{putMid}
 use Rattle.octets.specs.Octets.{part, put, bytes}
 use Rattle.store.specs.declared.namespaces.Label.{Label}
 use Rattle.store.specs.declared.finds.Found.{Found}
-use Rattle.store.specs.Formats.{slots}
+use Rattle.table.specs.Formats.{slots}
 use Rattle.store.specs.Maps.{Pair, pair, values, insert, erase, used}
 use Rattle.store.specs.Namespace.{Namespace, withPairs}
 use Rattle.store.specs.Records.{pairsIn}
 use Rattle.store.specs.Parts.{Holds as Parts, inserted, erased}
 use Rattle.store.specs.Finds.{foundKey}
-use Rattle.store.specs.Verbs.{CanInsert, CanRemove, CanReplace}
+use Rattle.verbs.specs.Verbs.{CanInsert, CanRemove, CanReplace}
 use Rattle.store.proofs.NamespaceLaws.{Within, within-true}
 use Rattle.store.proofs.CountLaws.{insert-used, erase-within}
 use Rattle.store.proofs.PartsLaws.{values-used, records-long, values-long}

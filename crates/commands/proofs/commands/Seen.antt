@@ -7,13 +7,13 @@ use native.Mathlib.Omega.{arith}
 use lib.Dec.{eqb}
 use lib.ListN.{length}
 use borrow.Author.Tests.{eqb-true, eqb-false, ne-eqb}
-use Rattle.octets.specs.Keys.{Padded}
+use Rattle.keys.specs.Keys.{Padded}
 use Rattle.octets.specs.Tests.{firstOf}
 use Rattle.octets.proofs.TestLaws.{none-holds, none-first, some-first, known, holds, fails}
 use Rattle.wire.specs.declared.entries.Command.{Command}
 use Rattle.wire.specs.Entry.{keyOf}
 use Rattle.store.specs.declared.namespaces.Label.{Label}
-use Rattle.store.specs.declared.formats.Format.{Format}
+use Rattle.table.specs.declared.formats.Format.{Format}
 use Rattle.store.specs.declared.finds.Found.{Found}
 use Rattle.store.specs.Maps.{keys, present, heldRoom}
 use Rattle.store.specs.Namespace.{Namespace}

@@ -9,7 +9,7 @@ use borrow.Rule.Slice.PartMut.{putMid}
 use Rattle.octets.specs.Octets.{put, zeros}
 use Rattle.octets.proofs.PartLaws.{put-then}
 use Rattle.store.specs.declared.namespaces.Label.{Label}
-use Rattle.store.specs.Formats.{slots}
+use Rattle.table.specs.Formats.{slots}
 use Rattle.store.specs.Namespace.{fresh}
 use Rattle.store.specs.Records.{recordsPart, valuesPart}
 use Rattle.memory.specs.Namespaces.{joined, total, slotsOf, sizeOf}

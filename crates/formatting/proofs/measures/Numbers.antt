@@ -9,7 +9,7 @@ use lib.Dec.{ltb}
 use borrow.Author.Tests.{eq-eqb, ne-eqb, lt-ltb, le-ltb, le-leb}
 use Rattle.octets.specs.Tests.{Row, firstOf}
 use Rattle.octets.proofs.TestLaws.{known, holds, fails, none-first, some-first}
-use Rattle.store.specs.Formats.{slots}
+use Rattle.table.specs.Formats.{slots}
 use Rattle.store.specs.Namespace.{Namespace, permitSteps}
 use Rattle.store.proofs.NamespaceLaws.{Permitted, permitted as permits, none-of, format-bounds}
 use Rattle.memory.specs.declared.permits.Permission.{Permission}

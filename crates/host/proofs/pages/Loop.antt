@@ -11,7 +11,7 @@ use lib.ListN.{length, drop, getD, length-append, length-drop}
 use lib.Seq.{drop-drop, getD-at}
 use borrow.Author.Tests.{le-ltb, lt-ltb, eq-eqb, ne-eqb}
 use Rattle.octets.specs.Octets.{part, number}
-use Rattle.octets.specs.Keys.{Key}
+use Rattle.keys.specs.Keys.{Key}
 use Rattle.octets.proofs.PartLaws.{part-drop, part-rest}
 use Rattle.wire.specs.declared.pages.PageEntry.{PageEntry}
 use Rattle.wire.specs.Page.{entrySize, firstEntry, Reading, refused, keys, behind, readEntries, readPage}

@@ -8,7 +8,7 @@ use native.Mathlib.Omega.{arith}
 use lib.ListN.{length, take, drop, length-drop, drop-of-length-le}
 use lib.Seq.{length-take-le, drop-cons, take-take}
 use borrow.Rule.Slice.PartMut.{putMid}
-use Rattle.octets.specs.Keys.{Key}
+use Rattle.keys.specs.Keys.{Key}
 use Rattle.octets.specs.Octets.{part, put, bytes, allZero}
 use Rattle.octets.proofs.PartLaws.{length-put, lent-put}
 use Rattle.wire.specs.Page.{entrySize, pageEntry, page, fits}

@@ -5,13 +5,13 @@ use Prim.Native.Nat.{ℕ, _-_, _*_, _<_}
 use native.Mathlib.Omega.{arith}
 use lib.ListN.{length, take, drop}
 use Rattle.octets.specs.Octets.{put}
-use Rattle.octets.specs.Keys.{Key, from}
+use Rattle.keys.specs.Keys.{Key, from}
 use Rattle.wire.specs.Page.{page, fits, shown}
 use Rattle.store.specs.declared.finds.Found.{Found}
 use Rattle.store.specs.Maps.{Pair, keys, valueOf}
 use Rattle.store.specs.Records.{valueLength, valueIn}
 use Rattle.store.specs.Finds.{foundKey}
-use Rattle.store.specs.Verbs.{pairAt, CanCopy}
+use Rattle.store.specs.Slots.{pairAt, CanCopy}
 use Rattle.store.proofs.PartsLaws.{records-long, values-long}
 use Rattle.store.proofs.SlotLaws.{value-cut, place-at, value-length-at, value-at}
 use Rattle.store.proofs.RankLaws.{rank-le, from-rank, length-keys-in}

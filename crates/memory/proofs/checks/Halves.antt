@@ -15,7 +15,7 @@ use Rattle.octets.proofs.NumberLaws.{Bytes, bytes-in, bytes-part}
 use Rattle.octets.proofs.ZeroLaws.{all-zeros}
 use Rattle.store.specs.declared.namespaces.Label.{Label}
 use Rattle.store.specs.declared.checks.Sums.{Sums}
-use Rattle.store.specs.Formats.{formatOf, slots}
+use Rattle.table.specs.Formats.{formatOf, slots}
 use Rattle.store.specs.Maps.{used}
 use Rattle.store.specs.Namespace.{Namespace}
 use Rattle.store.specs.Records.{pairsIn}

@@ -9,19 +9,19 @@ use lib.Dec.{ltb}
 use lib.ListN.{length, drop, length-append, take-append-drop}
 use lib.Seq.{drop-append-seam}
 use borrow.Author.Tests.{ltb-false, le-ltb, not-false}
-use Rattle.octets.specs.declared.keys.Order.the-variants.{Less}
+use Rattle.keys.specs.declared.orders.Order.the-variants.{Less}
 use Rattle.octets.specs.Octets.{part, zeros, filled, allZero}
-use Rattle.octets.specs.Keys.{Key, order}
+use Rattle.keys.specs.Keys.{Key, order}
 use Rattle.octets.proofs.PartLaws.{part-rest}
 use Rattle.octets.proofs.NumberLaws.{Bytes}
-use Rattle.octets.proofs.OrderLaws.{BelowFirst}
+use Rattle.keys.proofs.OrderLaws.{BelowFirst}
 use Rattle.octets.proofs.TestLaws.{refuted, contrary, both, neither}
 use Rattle.octets.proofs.ZeroLaws.{all-zeros, zeros-behind}
-use Rattle.octets.proofs.WideLaws.{widened-none}
-use Rattle.store.specs.declared.formats.Format.{Format}
+use Rattle.keys.proofs.WideLaws.{widened-none}
+use Rattle.table.specs.declared.formats.Format.{Format}
 use Rattle.store.specs.declared.namespaces.Label.{Label}
 use Rattle.store.specs.declared.checks.Sums.{Sums}
-use Rattle.store.specs.Formats.{slots}
+use Rattle.table.specs.Formats.{slots}
 use Rattle.store.specs.Maps.{Pair, keys, used, values}
 use Rattle.store.specs.Records.{recordsOf, recordsPart, valuesPart, valueLength, pairsIn}
 use Rattle.store.specs.Parts.{labelled}

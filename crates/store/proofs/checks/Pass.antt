@@ -8,20 +8,20 @@ use native.Mathlib.Omega.{arith}
 use lib.ListN.{length, take, drop, length-append, length-drop, take-append-drop}
 use lib.Seq.{length-take-le}
 use borrow.Author.Tests.{leb-true, eqb-true, le-leb, eq-eqb}
-use Rattle.octets.specs.declared.keys.Wide.{Wide}
+use Rattle.keys.specs.declared.orders.Wide.{Wide}
 use Rattle.octets.specs.Octets.{part, bytes, filled, allZero}
-use Rattle.octets.specs.Keys.{Key, order, isLess, clearWide}
+use Rattle.keys.specs.Keys.{Key, order, isLess, clearWide}
 use Rattle.octets.specs.Tests.{all}
 use Rattle.octets.proofs.PartLaws.{length-part, part-two}
 use Rattle.octets.proofs.NumberLaws.{Bytes, bytes-part, bytes-drop, bytes-in}
 use Rattle.octets.proofs.TestLaws.{all-true}
-use Rattle.octets.proofs.OrderLaws.{Below, BelowFirst, Rising, less-true}
+use Rattle.keys.proofs.OrderLaws.{Below, BelowFirst, Rising, less-true}
 use Rattle.octets.proofs.ZeroLaws.{zeros-behind, part-filled}
-use Rattle.octets.proofs.ClearLaws.{clear-wide}
-use Rattle.octets.proofs.WideLaws.{Widened, widened-order, widened-part}
+use Rattle.keys.proofs.ClearLaws.{clear-wide}
+use Rattle.keys.proofs.WideLaws.{Widened, widened-order, widened-part}
 use Rattle.store.specs.declared.namespaces.Label.{Label}
 use Rattle.store.specs.declared.checks.Sums.{Sums}
-use Rattle.store.specs.Formats.{formatOf}
+use Rattle.table.specs.Formats.{formatOf}
 use Rattle.store.specs.Maps.{Pair, pair, keys, used, values}
 use Rattle.store.specs.Records.{recordOf, recordsOf, keyLength, place, valueLength, owner, wideIn, pairsIn}
 use Rattle.store.specs.Checks.{noSums, slotIn, slotTests, passOver}

@@ -8,10 +8,10 @@ use native.Mathlib.Omega.{arith}
 use lib.ListN.{drop}
 use lib.Seq.{drop-drop}
 use borrow.Author.Tests.{leb-true, not-true, not-false}
-use Rattle.octets.specs.declared.keys.Wide.{Wide}
+use Rattle.keys.specs.declared.orders.Wide.{Wide}
 use Rattle.octets.specs.Tests.{all}
 use Rattle.octets.proofs.TestLaws.{all-true}
-use Rattle.store.specs.declared.formats.Format.{Format}
+use Rattle.table.specs.declared.formats.Format.{Format}
 use Rattle.store.specs.declared.checks.Slot.{Slot}
 use Rattle.store.specs.Checks.{noSums, slotIn, slotTests, firstWide, passOver}
 

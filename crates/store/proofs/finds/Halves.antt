@@ -8,12 +8,12 @@ use lib.Dec.{ltb}
 use lib.ListN.{length, take, drop, getD, length-drop}
 use borrow.Author.Tests.{ltb-true, ltb-false}
 use Rattle.octets.specs.Octets.{part}
-use Rattle.octets.specs.declared.keys.Order.{Order}
-use Rattle.octets.specs.declared.keys.Wide.{Wide}
-use Rattle.octets.specs.Keys.{Key, order, isLess, isEqual, orderWide}
+use Rattle.keys.specs.declared.orders.Order.{Order}
+use Rattle.keys.specs.declared.orders.Wide.{Wide}
+use Rattle.keys.specs.Keys.{Key, order, isLess, isEqual, orderWide}
 use Rattle.octets.proofs.NumberLaws.{Bytes, bytes-drop}
-use Rattle.octets.proofs.OrderLaws.{rising-true}
-use Rattle.octets.proofs.WideLaws.{Widened, widened-order, widened-part}
+use Rattle.keys.proofs.OrderLaws.{rising-true}
+use Rattle.keys.proofs.WideLaws.{Widened, widened-order, widened-part}
 use Rattle.store.specs.Records.{keyLength, wideIn}
 use Rattle.store.specs.Finds.{rank, hasKey, keysIn, found, KeysFit}
 use Rattle.store.proofs.RankLaws.{rank-le, rank-test, has-at, has-past, length-keys-in, key-at}

@@ -5,10 +5,10 @@ use native.Mathlib.Omega.{arith}
 use lib.ListN.{take, drop}
 use borrow.Author.Needs.{needs}
 use Rattle.octets.specs.Octets.{part, allZero}
-use Rattle.octets.specs.Keys.{isLess, isEqual}
+use Rattle.keys.specs.Keys.{isLess, isEqual}
 use Rattle.octets.proofs.NumberLaws.{Bytes, array-bytes}
 use Rattle.octets.proofs.PartLaws.{part-whole}
-use Rattle.octets.proofs.WideLaws.{Widened, widened-part}
+use Rattle.keys.proofs.WideLaws.{Widened, widened-part}
 use Rattle.store.proofs.finds.Halves.{tested, Halved, halved-none, halved-up, halved-down, halved-found, halved-past}
 use Rattle.store.proofs.finds.find.Statement.{statement}
 use Rattle.store.proofs.finds.find.Tie as tie

@@ -7,7 +7,7 @@ use lib.ListN.{length, drop}
 use borrow.Author.Needs.{needs}
 use Rattle.octets.specs.Octets.{put, bytes}
 use Rattle.store.specs.Records.{place}
-use Rattle.store.specs.Verbs.{raised}
+use Rattle.store.specs.Slots.{raised}
 use Rattle.store.proofs.records.raise_places.Statement.{statement}
 use Rattle.store.proofs.records.raise_places.Tie as tie
 

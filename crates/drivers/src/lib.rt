@@ -1,0 +1,1 @@
+// Definitions and theorems only: what a driver may rely on of the Identify page and of the creation of a namespace.

@@ -1,0 +1,2 @@
+-- The reader of Identify pages.
+mod Limits

@@ -1,9 +1,0 @@
-use borrow.Author.Needs.{needs}
-use Rattle.octets.proofs.PartLaws.{moved-down}
-use Rattle.store.proofs.verbs.remove_value.Statement.{statement}
-use Rattle.store.proofs.verbs.remove_value.Tie as tie
-
-pub remove-value-spec : {M : Type 1} → statement M
-remove-value-spec =
-    tie.close (tie.spec (λ c. search needs) (λ c κs. search needs) (λ c. search needs) (λ c κs. search needs) (λ c. search needs)
-    (λ c. search (needs, moved-down)))

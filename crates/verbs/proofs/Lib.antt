@@ -1,0 +1,1 @@
+-- Nothing for the crates above: they lean on the contracts.

@@ -1,0 +1,2 @@
+// The verbs on the two parts of a namespace.
+pub mod slots;
