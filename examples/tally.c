@@ -1,6 +1,6 @@
-/* A morning in the yard: the host asks what the cabinet has room for; each click of the pliers stores a tag's record; in the evening
- * the host walks the store, prints the tally and shows how full the cabinet is. Host and cabinet are one program here, so an entry
- * goes from kv_build straight to kv_command. */
+/* A morning in the yard: the host asks what the cabinet has room for; each click of the pliers stores a tag's record; in the
+ * evening the host walks the store, prints the tally and shows how full the cabinet is. Host and cabinet are one program here, so
+ * an entry goes from kv_build straight to kv_command, and a page from kv_identify to kv_read_identify. */
 #include "kv.h"
 
 int printf(const char *, ...);

@@ -13,7 +13,7 @@ static uint32_t most_keys(void) {
 }
 
 static void history(uint64_t ordinal) {
-    full = (ordinal < 16 && ordinal % 5 == 0) || one_in(20); /* once each number of keys in any case, which chance may leave out */
+    full = (ordinal < 16 && ordinal % 5 == 0) || one_in(20); /* each number of keys once, which chance may leave out */
     rubbish(real.directory, model.directory, sizeof real.directory);
     rubbish(real.values, model.values, sizeof real.values);
     intact = 0;

@@ -1,6 +1,6 @@
 /* The deepest stack of each exported call, arguments and return address with it. Stores full to the last byte, of the most keys and of the
  * longest values, with one namespace and with two: every command on them, carried out and refused by every step, and on damaged memory. It
- * fails above what the smallest board has for a call, and where a List from the start leaves a key that it listed on the stack. */
+ * fails above what the smallest board has, and where a List from the start leaves a key that it listed on the stack. */
 #include "stack_rows.h"
 
 static uint32_t lists;        /* whose stack was searched */
@@ -137,7 +137,7 @@ static void formats_by_fields(void) {
     row_within("kv_format_fields", "", HALF);
 }
 
-/* a call on the full stores, of each namespace and of one that there is not */
+/* a call on the full stores, whole and damaged, of each namespace and of one that there is not */
 static void on_full_stores(void (*call)(void)) {
     for (int k = 0; k < STORES; k++) {
         fill(stores + k, 0);

@@ -8,11 +8,13 @@ use Rattle.octets.specs.Octets.{part, number, zeros}
 use Rattle.wire.specs.Identify.{descriptor, front, identifyPage, limitsIn, limitsAt}
 use Rattle.store.specs.Namespace.{fresh}
 use Rattle.maps.specs.Describe.{described, describe}
-use Rattle.identify.specs.Identify.{pageOf, identify}
-use Rattle.module.specs.History.{Call}
+use Rattle.memory.specs.Memory.{memory}
+use Rattle.formatting.specs.Formatting.{formatSteps, format}
+use Rattle.identify.specs.Identify.{pageOf, identify, create}
+use Rattle.module.specs.History.{fields, Call}
 use Rattle.host.specs.declared.identities.Identity.{Identity}
 use Rattle.host.specs.Identity.{identity}
-use Rattle.promises.specs.Histories.{memoryAfter}
+use Rattle.promises.specs.Histories.{Start, begun, memoryAfter}
 use Rattle.promises.specs.Requests.{call}
 use Rattle.promises.proofs.Examples.{onMemory, startTwo, two-begun, A, store}
 use Rattle.drivers.specs.Pages.{ReadsHistory, elsewhere, fifteen}
@@ -71,6 +73,24 @@ second-read : identity (identify 2 blank (memoryAfter (startTwo 7) calls) .page)
     ≡ record { number = 0; formats = 16; index = 15; keymax = 0; valuemax = 0; maxkeys = 0; size = 64; used = 0 }
 unfolding onMemory
 second-read = reads-history (startTwo 7) calls 2 blank (two-begun 7) refl refl refl .page 16
+
+-- ---- a history that begins with fields: format 15 and size 64 with rubbish in all other bytes and bits
+
+abbrev created : Start
+created =
+    record {
+      layout = fields (0x40 ∷ zeros 7 ++ replicate 23 0xee ++ 0xef ∷ replicate 480 0xee) 1;
+      lent = memory (replicate 577 7) (replicate 65 7);
+    }
+
+created-begun : begun created .number ≡ 0
+unfolding create format formatSteps part number
+created-begun = refl
+
+created-read : identity (identify 1 blank (memoryAfter created calls) .page) 0
+    ≡ record { number = 0; formats = 16; index = 15; keymax = 4; valuemax = 64; maxkeys = 1024; size = 64; used = 2 }
+unfolding onMemory create
+created-read = reads-history created calls 1 blank created-begun refl refl refl .page 0
 
 -- ---- the devices that are not the module
 

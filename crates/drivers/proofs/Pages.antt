@@ -9,7 +9,6 @@ use native.Mathlib.Decide.{decLt}
 use native.Mathlib.Omega.{arith}
 use lib.ListN.{length}
 use borrow.Author.Tests.{lt-ltb, le-ltb}
-use Rattle.octets.specs.Octets.{number}
 use Rattle.wire.proofs.IdentifyLaws.{Sized}
 use Rattle.store.specs.Maps.{used}
 use Rattle.store.specs.Namespace.{Namespace}
@@ -23,11 +22,14 @@ use Rattle.maps.specs.Describe.{described, undescribed}
 use Rattle.maps.proofs.DescribeLaws.{describe-held}
 use Rattle.formatting.specs.Formatting.{blanks}
 use Rattle.identify.specs.Identify.{limits, pageOf, identifyOf, identify}
-use Rattle.module.specs.History.{halves, Call}
+use Rattle.commands.specs.Command.{Post}
+use Rattle.room.specs.Room.{room}
+use Rattle.module.specs.History.{halves, Call, commanding, run, status}
 use Rattle.host.specs.Identity.{identity}
 use Rattle.host.proofs.IdentityLaws.{Written, identity-back, identity-past}
 use Rattle.promises.specs.Histories.{Start, begun, memoryAfter, storedAfter}
 use Rattle.promises.proofs.RequestLaws.{holds-after}
+use Rattle.promises.proofs.Room.{refused-alike as alike}
 use Rattle.drivers.specs.Pages.{reads, Reads, ReadsLegal, ReadsHistory}
 use Rattle.drivers.proofs.Frames.{framed}
 
@@ -78,6 +80,12 @@ reads-history a xs n p ok f q l =
     let g = framed n (blanks (halves (a .layout))) (begun a .after) xs f in
     let r = reads-held (holds-after a xs ok) n p (g .held ∙ q) l in
     record { number = r .number; page = λ o. r .page o ∙ rw (g .index, g .size) }
+
+-- with a slice of the right length the writer refuses with 18 exactly where a command that numbers 1 and 2 let pass is answered 06h
+pub refused-alike : (n : ℕ) (s : List ℕ) (m : Memory) (p : Post) (e c b : List ℕ) → length s ≡ 4096 → run m (commanding p e c b) .number ≡ 0
+    → (identify n s m .number ≡ 18 → status (run m (commanding p e c b)) ≡ 0x06) × (status (run m (commanding p e c b)) ≡ 0x06 → identify n s m .number ≡ 18)
+unfolding identify room
+refused-alike n s m p e c b l k = rw l (alike n m p e c b k)
 
 -- an id that the history holds under no namespace
 pub unheld : (a : Start) (xs : List Call) (n : ℕ) (p : List ℕ) → begun a .number ≡ 0 → held n (storedAfter a xs) ≡ false → length p ≡ 4096

@@ -16,7 +16,7 @@ use Rattle.memory.specs.Namespaces.{held, at}
 use Rattle.memory.specs.Memory.{Memory, memory, labelIn, namespacesOf, legal}
 use Rattle.memory.proofs.ImageLaws.{Holds, legal-holds}
 use Rattle.memory.proofs.PlaceLaws.{label-held}
-use Rattle.maps.specs.Describe.{describe}
+use Rattle.maps.specs.Describe.{described, undescribed, describe}
 use Rattle.commands.specs.Command.{Post}
 use Rattle.rules.proofs.StepLaws.{illegal, never-06h}
 use Rattle.room.specs.declared.polls.Room.{Room}
@@ -53,13 +53,18 @@ legal-sum m e = go (namespacesOf m) (legal-holds m e)
 pub refused-alike : (i : ℕ) (m : Memory) (p : Post) (e c b : List ℕ) → run m (commanding p e c b) .number ≡ 0
     → (room i m .number ≡ 18 → status (run m (commanding p e c b)) ≡ 0x06) × (status (run m (commanding p e c b)) ≡ 0x06 → room i m .number ≡ 18)
 unfolding room describe
-refused-alike i m p e c b n = go (legal m) refl (held i (namespacesOf m)) refl
+refused-alike i m p e c b n = go (legal m) refl
   where
-    go : (x : Bool) → legal m ≡ x → (y : Bool) → held i (namespacesOf m) ≡ y
+    -- held or not, 18 is not the number
+    other : (y : Bool) → cond y (described (at i (namespacesOf m))) (undescribed 23) .number ≡ 18 → ⊥
+    other true q = omega (arith, q)
+    other false q = omega (arith, q)
+
+    go : (x : Bool) → legal m ≡ x
         → (room i m .number ≡ 18 → status (run m (commanding p e c b)) ≡ 0x06) × (status (run m (commanding p e c b)) ≡ 0x06 → room i m .number ≡ 18)
-    go true f true g = (λ q. absurd (omega (arith, rw (f, g) at q)), λ q. absurd (never-06h _ _ _ (sym (rw f at (any-status m p e c b n)) ∙ q)))
-    go true f false g = (λ q. absurd (omega (arith, rw (f, g) at q)), λ q. absurd (never-06h _ _ _ (sym (rw f at (any-status m p e c b n)) ∙ q)))
-    go false f y g = (λ q. any-status m p e c b n ∙ rw f (illegal _ _ _), λ q. rw f)
+    go true f =
+        (λ q. absurd (other (held i (namespacesOf m)) (rw f at q)), λ q. absurd (never-06h _ _ _ (sym (rw f at (any-status m p e c b n)) ∙ q)))
+    go false f = (λ q. any-status m p e c b n ∙ rw f (illegal _ _ _), λ q. rw f)
 
 -- ---- an instance: a value stored and another one in its place, a key stored and deleted, a key of sixteen bytes stored without a value,
 -- calls that are refused, and a poll among them
