@@ -63,12 +63,13 @@ page-back s w o = elim (decLt o 16) [ yes h ↦ one h | no h ↦ past (omega (ar
 
 module _ {ss : List Namespace} {m : Memory} (h : Holds ss m) (n : ℕ) (p : List ℕ) where
   -- what is handed back, refusals too
-  pub identify-held : identify n p m ≡ identifyOf (cond (held n ss) (described (at n ss)) (undescribed 23)) p
+  identify-held : identify n p m ≡ identifyOf (cond (held n ss) (described (at n ss)) (undescribed 23)) p
   unfolding identify
   identify-held = ap (λ (d : Described). identifyOf d p) (describe-held n h)
 
-  reads-held : held n ss ≡ true → length p ≡ 4096 → Reads (identify n p m) (reads (at n ss) (used (at n ss .pairs)))
-  reads-held q l = rw (identify-held, q, l) (record { number = refl; page = page-back (at n ss) (at-within n ss (h .within .each) q) })
+  reads-held : held n ss ≡ true → length p ≡ 4096 → Reads (identify n p m) (at n ss) (used (at n ss .pairs))
+  reads-held q l =
+      rw (identify-held, q, l) (record { number = refl; whole = refl; page = page-back (at n ss) (at-within n ss (h .within .each) q) })
 
 -- ---- the promises
 
@@ -79,7 +80,7 @@ pub reads-history : ReadsHistory identify
 reads-history a xs n p ok f q l =
     let g = framed n (blanks (halves (a .layout))) (begun a .after) xs f in
     let r = reads-held (holds-after a xs ok) n p (g .held ∙ q) l in
-    record { number = r .number; page = λ o. r .page o ∙ rw (g .index, g .size) }
+    record { number = r .number; whole = r .whole ∙ rw (g .index, g .size); page = λ o. r .page o ∙ rw (g .index, g .size) }
 
 -- with a slice of the right length the writer refuses with 18 exactly where a command that numbers 1 and 2 let pass is answered 06h
 pub refused-alike : (n : ℕ) (s : List ℕ) (m : Memory) (p : Post) (e c b : List ℕ) → length s ≡ 4096 → run m (commanding p e c b) .number ≡ 0

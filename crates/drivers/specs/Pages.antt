@@ -31,23 +31,24 @@ reads s n o = identifying 16 (s .index) (s .size) n (limitsFor o)
 abbrev pub Writer : Type 0
 Writer = ℕ → List ℕ → Memory → Identified
 
--- done, with a page that reads so
-pub record Reads (i : Identified) (r : ℕ → Identity) : Type 0 where
+-- done: the page says so much, with zeros in all other bytes, and a host reads it so
+pub record Reads (i : Identified) (s : Namespace) (n : ℕ) : Type 0 where
   pub number : i .number ≡ 0
-  pub page : (o : ℕ) → identity (i .page) o ≡ r o
+  pub whole : i .page ≡ identifyPage (s .size) n (s .index) limits 16
+  pub page : (o : ℕ) → identity (i .page) o ≡ reads s n o
 
 -- request [2]: on legal memory the page is that of the namespace
 abbrev pub ReadsLegal : Writer → Type 0
 ReadsLegal w =
     (m : Memory) (n : ℕ) (p : List ℕ) → legal m ≡ true → held n (namespacesOf m) ≡ true → length p ≡ 4096
-    → let s = at n (namespacesOf m) in Reads (w n p m) (reads s (used (s .pairs)))
+    → let s = at n (namespacesOf m) in Reads (w n p m) s (used (s .pairs))
 
 -- and over any history: the format and size of the formatting, and the used room that numbers and statuses tell
 abbrev pub ReadsHistory : Writer → Type 0
 ReadsHistory w =
     (a : Start) (xs : List Call) (n : ℕ) (p : List ℕ) → begun a .number ≡ 0 → never formats (begun a .after) xs ≡ true
     → held n (blanks (halves (a .layout))) ≡ true → length p ≡ 4096
-    → Reads (w n p (memoryAfter a xs)) (reads (at n (blanks (halves (a .layout)))) (used (storedIn n a xs .pairs)))
+    → Reads (w n p (memoryAfter a xs)) (at n (blanks (halves (a .layout)))) (used (storedIn n a xs .pairs))
 
 -- ---- the module but for one thing
 

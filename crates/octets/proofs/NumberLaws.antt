@@ -12,7 +12,7 @@ use denote.Array.{each}
 use denote.Plain.{UInt}
 use denote.Shadow.{shadow}
 use borrow.Author.Needs.{elem-fits}
-use Rattle.octets.specs.Octets.{part, number, bytes, zeros}
+use Rattle.octets.specs.Octets.{part, number, bytes}
 use Rattle.octets.proofs.PartLaws.{length-part, getD-part, part-two}
 
 pub number-bytes : (k n : ℕ) → n < 256 ^ k → number (bytes k n) ≡ n
@@ -51,7 +51,7 @@ bytes-drop n xs b i l = rw getD-drop (b (n + i) (omega (arith, length-drop n xs)
 pub bytes-in : (at k : ℕ) (xs : List ℕ) → Bytes xs → at + k ≤ length xs → bytes k (number (part at k xs)) ≡ part at k xs
 bytes-in at k xs b h = rw (length-part at k xs h) at (bytes-number (part at k xs) (bytes-part at k xs b h))
 
--- ---- numbers of eight bytes, by two of four
+-- ---- a number of eight bytes, by two of four
 
 number-append : (xs ys : List ℕ) → number (xs ++ ys) ≡ number xs + 256 ^ length xs * number ys
 unfolding number
@@ -60,9 +60,3 @@ number-append (x ∷ xs) ys = rw (number-append xs ys, pow-suc) (omega arith)
 
 pub number-two : (at : ℕ) (xs : List ℕ) → at + 8 ≤ length xs → number (part at 4 xs) + 4294967296 * number (part (at + 4) 4 xs) ≡ number (part at 8 xs)
 number-two at xs h = sym (ap number (part-two at 4 4 xs) ∙ number-append (part at 4 xs) (part (at + 4) 4 xs) ∙ rw (length-part at 4 xs (omega arith)) refl)
-
--- a number of four bytes, in eight
-pub bytes-eight : (n : ℕ) → n < 256 ^ 4 → bytes 8 n ≡ bytes 4 n ++ zeros 4
-bytes-eight n h =
-    let e : n / 256 / 256 / 256 / 256 ≡ 0 = omega arith in
-    rw e

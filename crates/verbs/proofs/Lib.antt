@@ -1,1 +1,0 @@
--- Nothing for the crates above: they lean on the contracts.
