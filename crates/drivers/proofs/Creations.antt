@@ -33,6 +33,9 @@ agree : Agree plain rubbish
 unfolding part
 agree = record { long = refl; size = refl; index = refl }
 
+alike : (m : Memory) → create plain 1 m ≡ create rubbish 1 m
+alike m = unread plain rubbish 1 m agree
+
 says : (askedIndex rubbish ≡ 3) × (askedSize rubbish ≡ 4096)
 unfolding part number
 says = (refl, refl)

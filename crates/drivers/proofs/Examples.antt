@@ -11,19 +11,23 @@ use Rattle.maps.specs.Describe.{described, describe}
 use Rattle.memory.specs.Memory.{memory}
 use Rattle.formatting.specs.Formatting.{formatSteps, format}
 use Rattle.identify.specs.Identify.{pageOf, identify, create}
-use Rattle.module.specs.History.{fields, Call}
+use Rattle.module.specs.History.{fields, Call, run, status}
 use Rattle.host.specs.declared.identities.Identity.{Identity}
 use Rattle.host.specs.Identity.{identity}
 use Rattle.promises.specs.Histories.{Start, begun, memoryAfter}
 use Rattle.promises.specs.Requests.{call}
-use Rattle.promises.proofs.Examples.{onMemory, startTwo, two-begun, A, store}
+use Rattle.promises.proofs.Examples.{onMemory, startTwo, two-begun, A, store, exist}
 use Rattle.drivers.specs.Pages.{ReadsHistory, elsewhere, fifteen}
-use Rattle.drivers.proofs.Pages.{reads-history}
+use Rattle.drivers.proofs.Pages.{reads-legal, reads-history, refused-alike, unheld}
 
 -- to unfold it is to unfold all that a page computes with
 unfoldable onPage : Unit {0}
 unfolding identifyPage front descriptor part number identity limitsAt limitsIn
 onPage = tt
+
+-- a slice for a page
+abbrev blank : List ℕ
+blank = replicate 4096 7
 
 -- ---- the page of an empty namespace of format 3
 
@@ -56,13 +60,17 @@ foreign-read : (identity foreign 250 ≡ foreign-says 0x1111 0x1111_1111 0x1111_
 unfolding onPage
 foreign-read = (refl, refl)
 
+-- ---- legal memory: two namespaces, both empty
+
+legal-read : identity (identify 2 blank (begun (startTwo 7) .after) .page) 3
+    ≡ record { number = 0; formats = 16; index = 15; keymax = 16; valuemax = 64; maxkeys = 1024; size = 64; used = 0 }
+unfolding onMemory
+legal-read = reads-legal (begun (startTwo 7) .after) 2 blank refl refl refl .page 3
+
 -- ---- a history: A stored in the first of two
 
 abbrev calls : List Call
 calls = call (store A (5 ∷ [])) ∷ []
-
-abbrev blank : List ℕ
-blank = replicate 4096 7
 
 first-read : identity (identify 1 blank (memoryAfter (startTwo 7) calls) .page) 15
     ≡ record { number = 0; formats = 16; index = 15; keymax = 16; valuemax = 4096; maxkeys = 16; size = 64; used = 2 }
@@ -73,6 +81,22 @@ second-read : identity (identify 2 blank (memoryAfter (startTwo 7) calls) .page)
     ≡ record { number = 0; formats = 16; index = 15; keymax = 0; valuemax = 0; maxkeys = 0; size = 64; used = 0 }
 unfolding onMemory
 second-read = reads-history (startTwo 7) calls 2 blank (two-begun 7) refl refl refl .page 16
+
+third-unheld : identify 3 blank (memoryAfter (startTwo 7) calls) ≡ record { number = 23; page = blank }
+unfolding onMemory
+third-unheld = unheld (startTwo 7) calls 3 blank (two-begun 7) refl refl
+
+-- ---- memory that is not legal: no bytes at all
+
+none-legal : identify 1 blank (memory [] []) .number ≡ 18
+unfolding onMemory describe identify
+none-legal = refl
+
+none-served : status (run (memory [] []) (call (exist A))) ≡ 0x06
+unfolding onMemory
+none-served =
+    let r = exist A in
+    refused-alike 1 blank (memory [] []) (r .post) (r .entry) (r .completion) (r .buffer) refl refl .0 none-legal
 
 -- ---- a history that begins with fields: format 15 and size 64 with rubbish in all other bytes and bits
 

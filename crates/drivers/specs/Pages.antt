@@ -50,14 +50,14 @@ ReadsHistory w =
     → held n (blanks (halves (a .layout))) ≡ true → length p ≡ 4096
     → Reads (w n p (memoryAfter a xs)) (at n (blanks (halves (a .layout)))) (used (storedIn n a xs .pairs))
 
--- ---- the module but for one thing
+-- ---- devices that are not the module
 
--- the used room is that of the namespace k
+-- the used room is that of the namespace k; all else is the module's
 abbrev pub elsewhere : ℕ → Writer
 elsewhere k n p m =
     let d = describe n m in
     identifyOf (record { number = d .number; index = d .index; size = d .size; used = describe k m .used; keys = d .keys }) p
 
--- the page names fifteen formats
+-- nothing is refused, and the page names fifteen formats
 abbrev pub fifteen : Writer
 fifteen n p m = let d = describe n m in identified 0 (identifyPage (d .size) (d .used) (d .index) limits 15)
