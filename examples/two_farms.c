@@ -1,5 +1,6 @@
 /* Two farms share a cabinet: each has a namespace of its own, with its own format and its own room, and both have a tag 0417. In the
- * evening each farm's tally is drawn up while the other one is still busy with the pliers, and neither sees a thing of the other. */
+ * evening each farm's tally is drawn up while the other one is still busy with the pliers, and neither sees a thing of the other. At night a
+ * gate between them lets an animal through where its tag is known: it has no time for a command, and asks for the tag alone. */
 #include "kv.h"
 
 int printf(const char *, ...);
@@ -78,6 +79,13 @@ static int evening(uint32_t farm, uint32_t other) {
     return bar(farm, tags);
 }
 
+/* whether a farm knows the tag, and how many records were looked at to say so */
+static int gate(uint32_t farm, const char *tag) {
+    struct kv_look look = kv_known((const uint8_t *)tag, strlen(tag), farm, directory, sizeof directory, values, sizeof values);
+    printf("  %s at %s Farm: %s, %u looked at\n", tag, farm == HILL ? "Hill" : "Meadow", look.known ? "known" : "not known", look.looked);
+    return look.number == KV_DONE;
+}
+
 int main(void) {
     if (kv_format_two(HILL_FORMAT, HILL, HILL_SIZE, MEADOW_FORMAT, MEADOW, MEADOW_SIZE, directory, sizeof directory, values,
                       sizeof values) != KV_DONE)
@@ -89,5 +97,7 @@ int main(void) {
     printf("Meadow Farm\n");
     if (!evening(MEADOW, HILL)) return 1;
     printf("Hill Farm, once more\n");
-    return !evening(HILL, MEADOW);
+    if (!evening(HILL, MEADOW)) return 1;
+    printf("The gate\n");
+    return !gate(HILL, "0420") || !gate(MEADOW, "0420") || !gate(MEADOW, "0502");
 }

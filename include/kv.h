@@ -27,8 +27,9 @@ enum {
     KV_FORMAT_INDEX = 3,      /* format index above 15 */
     KV_NAMESPACE_ID = 4,      /* namespace id 0 or FFFFFFFFh */
     KV_SIZE = 5,              /* size outside 1 to 65,536, or two that come to more */
-    KV_SLICE_LENGTH = 6,      /* directory or value slice shorter than formats and sizes need */
+    KV_SLICE_LENGTH = 6,      /* directory or value slice shorter than formats and sizes need; kv_known: or a head that says no such need */
     KV_BYTES_LENGTH = 14,     /* Identify page not 4,096 bytes, or fields not 512 */
+    KV_KEY_LENGTH = 15,       /* key to look for of 0 bytes or above 16 */
     KV_ILLEGAL = 18,          /* store memory not legal */
     KV_EQUAL_IDS = 19,        /* one id for both namespaces */
     KV_NOT_HELD = 23          /* no namespace of the memory has this id */
@@ -88,6 +89,20 @@ struct kv_room kv_used(uint32_t id, const uint8_t *directory, size_t directory_l
  * sixteen formats. Reads the store as a command does. Numbers 14, 18, 23, tried in that order. */
 uint32_t kv_identify(uint8_t *page, size_t page_len, uint32_t id, const uint8_t *directory, size_t directory_len,
                      const uint8_t *values, size_t values_len);
+
+/* Whether a key is stored: `known` is 1 for yes and 0 for no; `looked` is how many directory records were looked at, at most 11. */
+struct kv_look {
+    uint32_t number, known, looked;
+};
+
+/* Whether namespace `id` has the key, by halving among its records: for a gate that wants an answer in some hundreds of instructions. Unlike
+ * every other call it does not ask whether memory is legal: it reads the head and the records that it looks at, and of the value slice its
+ * length. On legal memory it says what Exist says; on other memory it says what those bytes say, and never reads past the slices.
+ * Numbers, tried in this order: 15; 6 where the directory has fewer than 64 bytes, or where a half of the head with an id other than 0 has a
+ * format index above 15, a size outside 1 to 65,536 or more keys than its format allows, or where a slice is shorter than such halves need
+ * together; 23. */
+struct kv_look kv_known(const uint8_t *key, size_t key_len, uint32_t id, const uint8_t *directory, size_t directory_len,
+                        const uint8_t *values, size_t values_len);
 
 /* ---- The host's side, in libhost.a (`rt staticlib host`). It needs no store: an entry is built, a completion, a List page and an Identify
  * page are read. Each call gives a number as above. */

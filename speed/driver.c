@@ -1,6 +1,7 @@
-/* One call on a store, for counting its instructions: a command, with Again a Store over a held key, or kv_used, or kv_identify. `driver CALL N HOW` writes
-   a store of n keys in each namespace to standard output; `driver CALL N HOW give` reads it and makes the call once, to the last namespace,
-   and `driver CALL N HOW skip` does all but that. */
+/* One call on a store, for counting its instructions: a command, with Again a Store over a held key, or kv_used, kv_identify or kv_known, with
+   Known for the key that Exist asks for, with Unknown for an absent one that takes the most looks. `driver CALL N HOW` writes a store of n keys
+   in each namespace to standard output; `driver CALL N HOW give` reads it and makes the call once, to the last namespace, and
+   `driver CALL N HOW skip` does all but that. */
 #include "kv.h"
 
 typedef struct file FILE;
@@ -23,12 +24,17 @@ static uint8_t directory[64 + 32 * 2048], values[65536], data[PAGE], completion[
 
 static int poll;          /* the call is kv_used */
 static int identify;      /* the call is kv_identify */
+static int known, absent; /* the call is kv_known, for the entry's key; and that is below all others */
 static uint32_t farm = 1; /* the namespace that it names */
 
-/* whether the entry's command, or the poll, or the page succeeds */
+/* whether the entry's command, or the poll, or the page, or the look for a key succeeds */
 __attribute__((noinline)) int measured(void) {
     if (poll) return kv_used(farm, directory, sizeof directory, values, sizeof values).number == 0;
     if (identify) return kv_identify(data, sizeof data, farm, directory, sizeof directory, values, sizeof values) == 0;
+    if (known) {
+        struct kv_look l = kv_known(entry + 8, 8, farm, directory, sizeof directory, values, sizeof values);
+        return l.number == 0 && l.known != (uint32_t)absent;
+    }
     uint32_t number
         = kv_command(entry, 64, completion, 16, data, sizeof data, directory, sizeof directory, values, sizeof values, 1, 1, 1);
     return number == 0 && (completion[14] | completion[15] << 8) >> 1 == 0;
@@ -64,7 +70,7 @@ static int filled(uint32_t n, uint32_t missing) {
 
 int main(int argc, char **argv) {
     if (argc < 4) return 2;
-    int opcode = argv[1][0] == 'E' ? KV_EXIST : argv[1][0] == 'R' ? KV_RETRIEVE : argv[1][0] == 'S' || argv[1][0] == 'A' ? KV_STORE
+    int opcode = argv[1][0] == 'E' || argv[1][0] == 'K' ? KV_EXIST : argv[1][0] == 'R' ? KV_RETRIEVE : argv[1][0] == 'S' || argv[1][0] == 'A' ? KV_STORE
         : argv[1][0] == 'D' ? KV_DELETE : KV_LIST;
     uint32_t n = atoi(argv[2]);
     how = argv[3][0] == 'w' ? &whole : argv[3][0] == 'h' ? &half : &two;
@@ -73,7 +79,10 @@ int main(int argc, char **argv) {
     if (!fread(directory, sizeof directory, 1, stdin) || !fread(values, sizeof values, 1, stdin)) return 1;
     farm = how->namespaces;
     prepare(opcode, n / 2, opcode == KV_LIST ? PAGE : how->value);
-    poll = argv[1][0] == 'U';
+    absent = argv[1][0] == 'U' && argv[1][1] == 'n';
+    known = argv[1][0] == 'K' || absent;
+    poll = argv[1][0] == 'U' && !absent;
     identify = argv[1][0] == 'I';
+    if (absent) prepare(KV_EXIST, 0, 0), entry[15]--;
     return argv[4][0] == 'g' && !measured();
 }

@@ -191,3 +191,56 @@ uint32_t kv_identify(uint8_t *page, size_t page_len, uint32_t id, const uint8_t 
     }
     return 0;
 }
+
+/* a key of 1 to 16 bytes, zeros behind it: wide loads that overlap, none of them past the key */
+static struct wide wide_of(const uint8_t *key, size_t len) {
+    struct wide w = { 0, 0 };
+    if (len >= 8) {
+        w.high = __builtin_bswap64(load64(key));
+        if (len > 8) w.low = __builtin_bswap64(load64(key + len - 8)) << (8 * (16 - len));
+    } else if (len >= 4) {
+        uint64_t front = __builtin_bswap32(load32(key)), back = __builtin_bswap32(load32(key + len - 4));
+        w.high = front << 32 | back << (8 * (8 - len));
+    } else {
+        w.high = (uint64_t)key[0] << 56 | (uint64_t)key[len / 2] << (56 - 8 * (len / 2)) | (uint64_t)key[len - 1] << (64 - 8 * len);
+    }
+    return w;
+}
+
+/* what a half of the head needs: its slots, and its size on top of `room`; more slots than there can be where a search may not go by it */
+static inline uint64_t needs(const uint8_t *half, uint64_t *room) {
+    if (load32(half) == 0) return 0;
+    uint32_t index = load32(half + 4), size = load32(half + 8);
+    if (index > 15 || size - 1 > 65535 || load32(half + 12) > max_keys(index)) return 1ull << 57;
+    *room += size;
+    return max_keys(index);
+}
+
+struct kv_look kv_known(const uint8_t *key, size_t key_len, uint32_t id, const uint8_t *directory, size_t directory_len,
+                        const uint8_t *values, size_t values_len) {
+    (void)values;
+    if (key_len - 1 > 15) return (struct kv_look){ 15, 0, 0 };
+    if (directory_len < 64) return (struct kv_look){ 6, 0, 0 };
+    uint64_t room = 0, first = needs(directory, &room), second = needs(directory + 32, &room);
+    if (directory_len < 64 + 32 * (first + second) || values_len < room) return (struct kv_look){ 6, 0, 0 };
+    const uint8_t *half = directory, *low = directory + 64;
+    if (load32(half) != id) half += 32, low += 32 * first;
+    if (id == 0 || load32(half) != id) return (struct kv_look){ 23, 0, 0 };
+    struct wide w = wide_of(key, key_len);
+    uint32_t looked = 0;
+    for (size_t left = load32(half + 12), rest; left > 0; left = rest) {
+        rest = left / 2;
+        const uint8_t *middle = low + 32 * rest;
+        struct wide x = wide_at(middle);
+        looked++;
+        if (w.high < x.high) continue;
+        if (w.high == x.high) {
+            uint32_t len = load32(middle + 16);
+            if (w.low == x.low && key_len == len) return (struct kv_look){ 0, 1, looked };
+            if (below(w, key_len, x, len)) continue;
+        }
+        low = middle + 32;
+        rest = left - rest - 1;
+    }
+    return (struct kv_look){ 0, 0, looked };
+}

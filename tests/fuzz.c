@@ -4,7 +4,7 @@
 
 unsigned long long strtoull(const char *, char **, int);
 
-static uint64_t wanted = 240000;
+static uint64_t wanted = 260000;
 
 static uint32_t most_keys(void) {
     uint32_t most = 0;
@@ -33,6 +33,8 @@ static void history(uint64_t ordinal) {
         else if (one_in(200)) bad_format();
         else if (one_in(80)) any_identify(directory_len, values_len);
         else if (!full && one_in(300)) any_format();
+        else if (one_in(80)) any_exist();
+        else if (one_in(60)) any_heads();
         else if (one_in(40)) {
             rubbish(real.completion, model.completion, sizeof real.completion);
             read_completion(real.completion, one_in(2) ? 16 : below(16 + SPARE));
@@ -58,6 +60,8 @@ int main(int argc, char **argv) {
     missing += report_commands();
     missing += report_damage();
     missing += report_identify();
+    missing += report_known();
+    missing += report_heads();
     missing += report_again();
     missing += report_farms();
     missing += report_orders();

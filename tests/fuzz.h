@@ -49,7 +49,7 @@ uint8_t *lent(const uint8_t *p, size_t n);          /* a slice to lend: of no by
 uint32_t get16(const uint8_t *p);
 
 /* Each makes a call on both sides and ends the program where they differ. `command` returns the status, or 100h where a number was
- * given. The formattings and `command` poll the used room now and then behind it, of an id by chance. */
+ * given. The formattings and `command` now and then ask a question behind it, of an id by chance. */
 struct asked {
     uint32_t index, id;
     uint64_t size;
@@ -90,6 +90,28 @@ int report_formats(void);            /* as `report_calls` */
 uint32_t format_fields(const struct asked *a, uint8_t *d, size_t dlen, uint8_t *v, size_t vlen);
 void any_identify(size_t dlen, size_t vlen); /* an Identify page of an id by chance, read again; then another device's */
 int report_identify(void);                   /* as `report_calls` */
+int told(const char *what, const uint64_t *n, uint32_t many); /* prints counters; returns how many of them are 0 */
+
+/* ---- fuzz_known.c */
+
+struct wanted {
+    uint8_t key[16];
+    size_t len; /* of any number of bytes; above 16 none of them is lent */
+    uint32_t id;
+};
+/* the look for a key on `d`, in which `memory` stands; the value slice cannot be read where `v` is a null pointer */
+struct kv_look look(const struct wanted *w, const uint8_t *d, const uint8_t *memory, size_t dlen, const uint8_t *v, size_t vlen);
+uint32_t near_key(uint8_t key[16], uint32_t len); /* makes another key of it; returns its length */
+size_t bad_length(uint32_t len);                  /* one that is refused, now and then `len` but for its upper bits */
+void any_known(size_t dlen, size_t vlen);         /* any key, of an id by chance */
+void any_question(size_t dlen, size_t vlen);      /* that, or the used room */
+void any_exist(void);                             /* the same key for Exist and for the look */
+int report_known(void);                           /* as `report_calls` */
+
+/* ---- fuzz_heads.c */
+
+void any_heads(void);   /* a memory of its own, searched and refused */
+int report_heads(void); /* as `report_calls` */
 
 /* ---- fuzz_pages.c */
 

@@ -98,7 +98,7 @@ uint32_t format(const struct asked *a, uint32_t n, size_t dlen, size_t vlen) {
         for (turn = 0; turn < n; turn++) number("keys after formatting", ours()->count, 0);
         take_turn();
     }
-    if (one_in(4)) any_poll(dlen, vlen);
+    if (one_in(2)) any_question(dlen, vlen);
     return got;
 }
 
@@ -144,7 +144,7 @@ uint32_t command(size_t entry_len, size_t completion_len, size_t room, size_t dl
     uint32_t status = (real.completion[14] | real.completion[15] << 8) >> 1 & 255;
     if (got == 0) statuses[status]++;
     if (got == 0 && store != 0) witness(store, status);
-    if (one_in(16)) any_poll(dlen, vlen);
+    if (one_in(8)) any_question(dlen, vlen);
     return got != 0 ? 0x100 : status;
 }
 
@@ -228,7 +228,7 @@ int report_calls(void) {
     }
     printf("\nnumbers:");
     for (int i = 0; i < NUMBERS; i++) {
-        if ((i > 14 && i < 18) || (i > 19 && i < 23)) continue; /* numbers that no call has */
+        if ((i > 15 && i < 18) || (i > 19 && i < 23)) continue; /* numbers that no call has */
         printf(" %d %llu", i, (unsigned long long)numbers[i]);
         missing += numbers[i] == 0;
     }

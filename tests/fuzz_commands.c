@@ -2,7 +2,7 @@
 #include "fuzz.h"
 
 uint64_t salt;
-uint32_t pool, letters, spite, storing, full;
+uint32_t pool = 1, letters = 1, spite, storing, full; /* a question may need a key before the first history has its own */
 int walking, quiet;
 
 /* ---- keys: few enough to meet again, with proper beginnings and zero bytes behind among them */

@@ -181,6 +181,7 @@ void damaged(void) {
     (fit ? legal : illegal)[held->count - 1]++;
     if (one_in(2)) any_poll(directory_len, values_len);
     if (one_in(2)) any_identify(directory_len, values_len);
+    for (uint32_t i = below(4); i > 0; i--) any_known(directory_len, values_len);
     for (uint32_t i = 1 + below(4); i > 0; i--) {
         take_turn();
         any_command();

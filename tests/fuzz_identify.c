@@ -166,7 +166,7 @@ void any_identify(size_t dlen, size_t vlen) {
 
 /* ---- counters */
 
-static int told(const char *what, const uint64_t *n, uint32_t many) {
+int told(const char *what, const uint64_t *n, uint32_t many) {
     int missing = 0;
     printf("%s", what);
     for (uint32_t i = 0; i < many; i++) {

@@ -61,6 +61,10 @@ uint32_t model_build(uint8_t *entry, size_t entry_len, uint8_t opcode, uint16_t 
 struct kv_room model_room(uint32_t id, const uint8_t *directory, size_t directory_len, const uint8_t *values, size_t values_len);
 uint32_t model_identify(uint8_t *page, size_t page_len, uint32_t id, const uint8_t *directory, size_t directory_len,
                         const uint8_t *values, size_t values_len);
+/* the look for a key: on any memory, with the places of the records looked at; and on legal memory, by what it holds */
+struct kv_look model_known(const uint8_t *key, size_t key_len, uint32_t id, const uint8_t *directory, size_t directory_len,
+                           size_t values_len, size_t places[11]);
+struct kv_look model_known_held(struct model_store *m, const uint8_t *key, size_t key_len, uint32_t id);
 struct kv_completion model_read_completion(const uint8_t *completion, size_t completion_len);
 struct kv_page_key model_read_page(const uint8_t *page, size_t page_len, uint32_t ordinal);
 struct kv_identity model_read_identify(const uint8_t *page, size_t page_len, uint32_t ordinal);

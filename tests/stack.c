@@ -1,7 +1,7 @@
 /* The deepest stack of each exported call, arguments and return address with it. Stores full to the last byte, of the most keys and of the
  * longest values, with one namespace and with two: every command on them, carried out and refused by every step, and on damaged memory. It
  * fails above what the smallest board has, and where a List from the start leaves a key that it listed on the stack. */
-#include "stack_rows.h"
+#include "stack_host.h"
 
 static uint32_t lists;        /* whose stack was searched */
 static uint8_t statuses[256]; /* those that occurred */
@@ -157,62 +157,25 @@ static void identities(void) {
     row_within("kv_identify", "", HALF);
 }
 
-/* pages of sixteen formats and of 256, of which 251 have room */
-static void identities_read(void) {
-    static const uint32_t ordinals[] = {0, 15, 16, 250, 251, 255, 256, 0xffffffff};
-    fill(stores, 0);
-    identify();
-    for (int foreign = 0; foreign < 2; foreign++) {
-        for (size_t i = 0; i < sizeof ordinals / sizeof *ordinals; i++) {
-            ordinal = ordinals[i];
-            measure(read_identify);
-        }
-        memset(page, 0xff, PAGE);
+/* A key below all that are held, which takes the most looks, on the full stores; in two namespaces of the most keys that key, one in the
+ * middle and one above all, each of every length; and slices that are too short. */
+static void looks(void) {
+    on_full_stores(known);
+    fill(stores + 2, 0);
+    for (uint32_t i = 0; i < 2 * 3 * (KEY + 2); i++) {
+        farm = 1 + i % 2;
+        lent.key = i / 6;
+        if (i / 2 % 3 == 1) memcpy(wanted, directory + 64 + 32 * 512, KEY);
+        else memset(wanted, i / 2 % 3 == 0 ? 0 : 0xff, KEY);
+        measure(known);
     }
-    lent.page = PAGE - 1;
-    measure(read_identify);
-    row_within("kv_read_identify", "", HALF);
-}
-
-static void builds(void) {
-    static const uint8_t opcodes[] = {KV_STORE, KV_RETRIEVE, KV_LIST, KV_DELETE, KV_EXIST, 0xff};
-    for (size_t i = 0; i < sizeof opcodes; i++) {
-        opcode = opcodes[i];
-        for (size_t n = 0; n <= KEY + 1; n++) {
-            lent.key = n;
-            measure(build);
-        }
-    }
-    lent.entry = 63;
-    measure(build);
-    row("kv_build", "");
-}
-
-static void completions(void) {
-    measure(read_completion);
-    lent.completion = 15;
-    measure(read_completion);
-    row("kv_read_completion", "");
-}
-
-/* a page of 204 keys, as entries of 20 bytes */
-static void pages(void) {
-    fill(stores, 0);
-    prepare(KV_LIST, stores, 0);
-    command();
-    memcpy(page, data, PAGE);
-    for (ordinal = 0; ordinal <= 204; ordinal += 102) measure(read_page);
-    for (int cut = 0; cut < 2; cut++) {
-        lent.page = cut ? 4083 : 3;
-        measure(read_page);
-    }
-    static const struct { uint16_t at, bit; } wrong[] = {{0, 1}, {22, 1}, {6, 128}}; /* one key more, filling, order */
-    for (size_t i = 0; i < sizeof wrong / sizeof *wrong; i++) {
-        page[wrong[i].at] ^= wrong[i].bit;
-        measure(read_page);
-        page[wrong[i].at] ^= wrong[i].bit;
-    }
-    row("kv_read_page", "");
+    farm = 1;
+    lent.directory = 63;
+    measure(known);
+    lent.values = SIZE - 1;
+    measure(known);
+    if (looked != 11) failed = printf("FAILED: of 1024 keys at most %u were looked at\n", looked);
+    row_within("kv_known", "", HALF);
 }
 
 int main(void) {
@@ -229,13 +192,14 @@ int main(void) {
     on_full_stores(used);
     row("kv_used", "");
     identities();
+    looks();
     builds();
     completions();
     pages();
     identities_read();
     for (size_t i = 0; i < sizeof expected; i++)
         if (!statuses[expected[i]]) failed = printf("FAILED: status %02x did not occur\n", expected[i]);
-    if (numbers != (0x7fffu | 1u << KV_ILLEGAL | 1u << KV_EQUAL_IDS | 1u << KV_NOT_HELD))
+    if (numbers != (0xffffu | 1u << KV_ILLEGAL | 1u << KV_EQUAL_IDS | 1u << KV_NOT_HELD))
         failed = printf("FAILED: of the numbers these occurred: %x\n", numbers);
     if (lists == 0) failed = printf("FAILED: no List had its stack searched\n");
     return failed != 0;

@@ -27,7 +27,8 @@ static struct asked {
     uint64_t size;
 } first, second;
 static uint32_t farm = 1, ordinal, number; /* the namespace named, the key or format asked for of a page, the number given */
-static uint8_t opcode;
+static uint8_t opcode, wanted[KEY + 1]; /* the key looked for */
+static uint32_t looked;                 /* the most records that it was compared with */
 
 static void format(void) { number = kv_format(first.index, first.id, first.size, directory, lent.directory, values, lent.values); }
 static void format_two(void) {
@@ -45,6 +46,11 @@ static void command(void) {
 }
 static void used(void) { number = kv_used(farm, directory, lent.directory, values, lent.values).number; }
 static void identify(void) { number = kv_identify(page, lent.page, farm, directory, lent.directory, values, lent.values); }
+static void known(void) {
+    struct kv_look said = kv_known(wanted, lent.key, farm, directory, lent.directory, values, lent.values);
+    number = said.number;
+    if (said.looked > looked) looked = said.looked;
+}
 static void build(void) { number = kv_build(entry, lent.entry, opcode, 1, 1, (const uint8_t *)"0123456789abcdefg", lent.key, 4, 0); }
 static void read_completion(void) { number = kv_read_completion(completion, lent.completion).number; }
 static void read_page(void) { number = kv_read_page(page, lent.page, ordinal).number; }

@@ -24,7 +24,7 @@ use Rattle.farms.specs.Sides.{Start, blank, farms, begun, ready, sees, u
 use Rattle.farms.specs.Alone.{meets, after, alone}
 use Rattle.farms.specs.Hosts.{callOf}
 use Rattle.farms.proofs.Examples.{onMap, start, start-begun, A, entry, ask, call}
-use Rattle.farms.proofs.Stands.{Stands, left, stands-next, told-alone, shows-alone}
+use Rattle.farms.proofs.Stands.{Stands, left, stands-next, room-alone, shows-alone}
 
 -- ---- from memory in which the farm stands
 
@@ -33,7 +33,7 @@ alone-behind s [] ys = refl
 alone-behind s (x ∷ xs) ys = ap (before (meets s x ∷ [])) (alone-behind (after s x) xs ys)
 
 side-alone : (n : ℕ) (s : Namespace) (m : Memory) (xs : List Call) → Stands n s m → unformatted real m xs ≡ true → side real n m xs ≡ alone s (own n xs)
-side-alone n s m [] t u = ap (λ r. record { shown = []; room = r }) (told-alone n s m t (polling n) refl)
+side-alone n s m [] t u = ap (λ r. record { shown = []; room = r }) (room-alone n s m t)
 side-alone n s m (x ∷ xs) t u =
     let q = both (not (formats x (run m x))) (unformatted real (next real m x) xs) u in
     let r = side-alone n (left s (asks n x)) (next real m x) xs (stands-next n s m t x (q .0)) (q .1) in

@@ -19,10 +19,8 @@ use Rattle.commands.specs.Answer.{answer}
 use Rattle.commands.specs.Command.{Post}
 use Rattle.commands.proofs.AnswerLaws.{answer-status, dword0-small}
 use Rattle.commands.proofs.CommandLaws.{entry-key, serve-holds, command-0, command-1, command-2}
-use Rattle.maps.specs.declared.describes.Described.{Described}
-use Rattle.maps.specs.Describe.{described, describe}
-use Rattle.maps.proofs.DescribeLaws.{describe-held}
-use Rattle.module.specs.History.{Layout, begin, Question, idOf, ask, tell, Call, formatting, commanding, asking, lend, run, formats}
+use Rattle.room.specs.Room.{filledBy}
+use Rattle.module.specs.History.{Layout, begin, Question, polling, idOf, filled, ask, tell, Call, formatting, commanding, asking, lend, run, formats}
 use Rattle.module.proofs.HistoryLaws.{begin-refused, ask-is, call-number, call-status, call-dword0, call-buffer}
 use Rattle.farms.specs.Sides.{real, Ask, sends, asks, answered, learnt, seenOf, shows}
 use Rattle.farms.specs.Alone.{refusal, meets, after, alone}
@@ -129,10 +127,14 @@ module _ (n : ℕ) (s : Namespace) (m : Memory) (t : Stands n s m) where
   stands-next (asking k) q = elim (known (eqb n (idOf k))) [ holds f ↦ rw f t | fails f ↦ rw f t ]
 
   -- what a question gives
-  pub told-alone : (q : Question) → n ≡ idOf q → ask m q ≡ tell (described s) q
-  told-alone q e =
-      let d : describe n m ≡ described s = describe-held n (t .image) ∙ rw (t .there, t .is) in
-      ask-is m q ∙ ap (λ k. tell (describe k m) q) (sym e) ∙ ap (λ (x : Described). tell x q) d
+  pub told-alone : (q : Question) → n ≡ idOf q → ask m q ≡ tell s q
+  told-alone q e = ask-is q (t .image) ∙ ap (λ (x : Namespace). tell x q) (ap (λ (j : ℕ). at j ss) (sym e) ∙ t .is)
+
+  -- its used room
+  pub room-alone : ask m (polling n) ≡ filled (filledBy (s .pairs))
+  room-alone =
+      let own : eqb n (s .id) ≡ true = ap (λ (x : Namespace). eqb n (x .id)) (sym (t .is)) ∙ at-id n ss ∙ t .there in
+      told-alone (polling n) refl ∙ rw own
 
   -- what a call shows
   pub shows-alone : (x : Call) → shows real n m x ≡ alone s (asks n x) .shown

@@ -8,7 +8,6 @@ use Rattle.wire.specs.Entry.{readCommand, notEntry}
 use Rattle.wire.specs.Completion.{readCompletion, notCompletion}
 use Rattle.store.specs.Namespace.{Namespace, withPairs}
 use Rattle.commands.specs.Answer.{answer}
-use Rattle.maps.specs.Describe.{described}
 use Rattle.room.specs.Room.{filledBy}
 use Rattle.module.specs.History.{filled, tell}
 use Rattle.farms.specs.Sides.{Ask, sends, poses, Seen, answered, learnt, Side, before}
@@ -24,7 +23,7 @@ meets s (sends e c b) =
     let a = answer true s (readCommand e) b in
     let l = readCompletion c in
     cond (eqb k 0) (answered 0 (a .status) (a .dword0) (a .buffer)) (answered k (l .status) (l .dword0) b)
-meets s (poses q) = learnt (tell (described s) q)
+meets s (poses q) = learnt (tell s q)
 
 abbrev pub after : Namespace → Ask → Namespace
 after s (sends e c b) = cond (eqb (refusal e c) 0) (withPairs s (answer true s (readCommand e) b .pairs)) s

@@ -58,7 +58,7 @@ zeros-first (suc i) (suc z ∷ zs) e = rw (orderN-is 0 (suc z) Less (omega arith
 zeros-last : (i : ℕ) (zs : List ℕ) → length zs ≡ i → then (order zs (zeros i)) Greater ≡ Greater
 zeros-last i zs e = rw (order-flip (zeros i) zs) (flip-then (order (zeros i) zs) Less ∙ ap flip (zeros-first i zs e))
 
-order-padded : (xs ys : List ℕ) (i j : ℕ) → length xs + i ≡ length ys + j
+pub order-padded : (xs ys : List ℕ) (i j : ℕ) → length xs + i ≡ length ys + j
     → then (order (xs ++ zeros i) (ys ++ zeros j)) (orderN (length xs) (length ys)) ≡ order xs ys
 order-padded [] [] i j e =
     let q : i ≡ j = omega arith in
@@ -88,6 +88,12 @@ order-16 xs ys bx by lx ly =
         let e = length-part at 8 xs (omega arith) ∙ sym (length-part at 8 ys (omega arith)) in
         order-from 0 0 (part at 8 xs) (part at 8 ys) us vs (bytes-part at 8 xs bx (omega arith)) (bytes-part at 8 ys by (omega arith)) e
 
+-- sixteen bytes and a length, whatever they are
+pub wide-order : (xs ys : List ℕ) (m n : ℕ) → Bytes xs → Bytes ys → length xs ≡ 16 → length ys ≡ 16
+    → orderWide (wideOf xs m) (wideOf ys n) ≡ then (order xs ys) (orderN m n)
+unfolding wideOf
+wide-order xs ys m n bx by lx ly = rw (order-16 xs ys bx by lx ly, then-assoc)
+
 -- ---- a key in its sixteen bytes, as code holds it
 
 -- w is the key k
@@ -97,10 +103,11 @@ pub record Widened (w : Wide) (k : Key) : Type 0 where
   pub bytes : Bytes (filled 16 k)
 
 pub widened-order : {w x : Wide} {j k : Key} → Widened w j → Widened x k → orderWide w x ≡ order j k
-unfolding wideOf
 widened-order {w} {x} {j} {k} a b =
-    let e = order-16 (filled 16 j) (filled 16 k) (a .bytes) (b .bytes) (length-filled 16 j (a .short)) (length-filled 16 k (b .short)) in
-    rw (a .is, b .is, ← then-assoc, ← e) (order-padded j k (16 - length j) (16 - length k) (omega arith))
+    let l = length-filled 16 j (a .short) in
+    let m = length-filled 16 k (b .short) in
+    let e = wide-order (filled 16 j) (filled 16 k) (length j) (length k) (a .bytes) (b .bytes) l m in
+    rw (a .is, b .is, e) (order-padded j k (16 - length j) (16 - length k) (omega arith))
 
 pub widened-none : Widened (record { high = 0; low = 0; len = 0 }) []
 unfolding wideOf big part

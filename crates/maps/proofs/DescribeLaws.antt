@@ -13,7 +13,7 @@ use Rattle.memory.specs.Checks.{checked}
 use Rattle.memory.proofs.NameLaws.{at-id}
 use Rattle.memory.proofs.ImageLaws.{Holds, holds-back, holds-legal}
 use Rattle.maps.specs.declared.describes.Described.{Described}
-use Rattle.maps.specs.Describe.{described, undescribed, describe}
+use Rattle.maps.specs.Describe.{described, undescribed, describedAs, describe}
 use Rattle.maps.proofs.LegalLaws.{ok-is, legal-checked, unnamed, label-is}
 
 -- the numbers of a label
@@ -47,3 +47,7 @@ module _ {k : Checked} (id : ℕ) (d v : List ℕ) (e : k ≡ checked id (memory
 pub describe-held : {ss : List Namespace} {m : Memory} (id : ℕ) → Holds ss m → describe id m ≡ cond (held id ss) (described (at id ss)) (undescribed 23)
 unfolding describe
 describe-held id h = rw (holds-legal h) (ap (λ (ts : List Namespace). cond (held id ts) (described (at id ts)) (undescribed 23)) (holds-back h))
+
+-- by the namespace that the id names alone
+pub describe-as : {ss : List Namespace} {m : Memory} (id : ℕ) → Holds ss m → describe id m ≡ describedAs id (at id ss)
+describe-as {ss} id h = describe-held id h ∙ rw (at-id id ss)

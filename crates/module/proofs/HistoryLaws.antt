@@ -21,17 +21,19 @@ use Rattle.memory.proofs.NameLaws.{with-same}
 use Rattle.memory.proofs.ImageLaws.{Holds}
 use Rattle.rules.specs.Steps.{statusOf}
 use Rattle.rules.proofs.StepLaws.{status-byte}
-use Rattle.maps.specs.Describe.{describe}
+use Rattle.maps.specs.declared.describes.Described.{Described}
+use Rattle.maps.proofs.DescribeLaws.{describe-as}
 use Rattle.formatting.specs.Formatting.{blanks, Formatted, format}
 use Rattle.formatting.proofs.FormatLaws.{Few, blanks-within, format-holds, format-refused}
 use Rattle.commands.specs.Answer.{Answer, answer, pairsAfter}
 use Rattle.commands.specs.Command.{Post, Outcome, completionOf, serve}
 use Rattle.commands.proofs.AnswerLaws.{answer-status}
 use Rattle.commands.proofs.CommandLaws.{entry-key, serve-is, serve-holds, command-0, command-1, command-2, Kept, over-kept, serve-kept}
-use Rattle.room.specs.Room.{room}
-use Rattle.identify.specs.Identify.{identify}
+use Rattle.room.specs.Room.{roomOf, room}
+use Rattle.identify.specs.Identify.{identifyOf, identify}
 use Rattle.identify.proofs.IdentifyLaws.{create-is, create-refused}
-use Rattle.module.specs.History.{Layout, one, two, fields, halves, begin, Question, polling, identifying, idOf, ask, tell}
+use Rattle.quick.proofs.KnownLaws.{known-held}
+use Rattle.module.specs.History.{Layout, one, two, fields, halves, begin, Question, polling, identifying, knowing, filled, paged, seen, idOf, ask, tell}
 use Rattle.module.specs.History.{Call, formatting, commanding, asking, lend, run, leaves, told, stored}
 
 -- ---- a command that numbers 1 and 2 let pass
@@ -132,11 +134,12 @@ module _ (l : Layout) (m : Memory) where
 
 -- ---- a question
 
--- it goes by what is told of the namespace that it names, and by nothing else of memory
-pub ask-is : (m : Memory) (q : Question) → ask m q ≡ tell (describe (idOf q) m) q
+-- on an image it goes by the namespace that it names, and by nothing else of memory
+pub ask-is : {ss : List Namespace} {m : Memory} (q : Question) → Holds ss m → ask m q ≡ tell (at (idOf q) ss) q
 unfolding room identify
-ask-is m (polling n) = refl
-ask-is m (identifying p n) = refl
+ask-is (polling n) h = ap (λ (d : Described). filled (roomOf d)) (describe-as n h)
+ask-is (identifying p n) h = ap (λ (d : Described). paged (identifyOf d p)) (describe-as n h)
+ask-is (knowing k n) h = ap seen (known-held k n h)
 
 -- ---- any call
 

@@ -10,7 +10,7 @@ use Rattle.wire.specs.Completion.{readCompletion}
 use Rattle.store.specs.Namespace.{Namespace}
 use Rattle.memory.specs.Namespaces.{at, with}
 use Rattle.memory.specs.Memory.{Memory}
-use Rattle.maps.specs.declared.describes.Described.{Described}
+use Rattle.maps.specs.Describe.{describedAs}
 use Rattle.formatting.specs.declared.measures.Half.{Half}
 use Rattle.formatting.specs.Formatting.{blanks, Formatted, format}
 use Rattle.commands.specs.Answer.{pairsAfter}
@@ -18,6 +18,8 @@ use Rattle.commands.specs.Command.{Post, Lent, Outcome, command}
 use Rattle.room.specs.declared.polls.Room.{Room}
 use Rattle.room.specs.Room.{roomOf, room}
 use Rattle.identify.specs.Identify.{Identified, identifyOf, identify, asked, create}
+use Rattle.quick.specs.declared.looks.Look.{Look}
+use Rattle.quick.specs.Known.{knownIn, known}
 
 -- what a formatting is given: the numbers of one namespace, or of two, or a host's fields for one under an id
 pub data Layout : Type 0 where
@@ -36,27 +38,33 @@ begin (one h) m = format (h ∷ []) m
 begin (two h k) m = format (h ∷ k ∷ []) m
 begin (fields s id) m = create s id m
 
--- a call that reads memory and changes nothing there: under an id, a poll of the used room, or the Identify page, for which a slice is lent
+-- a call that reads memory and changes nothing there: under an id, a poll of the used room; the Identify page, for which a slice is lent; or a
+-- look for a key
 pub data Question : Type 0 where
   polling : ℕ → Question
   identifying : List ℕ → ℕ → Question
+  knowing : List ℕ → ℕ → Question
 
 pub data Told : Type 0 where
   filled : Room → Told
   paged : Identified → Told
+  seen : Look → Told
 
 abbrev pub idOf : Question → ℕ
 idOf (polling n) = n
 idOf (identifying p n) = n
+idOf (knowing k n) = n
 
 abbrev pub ask : Memory → Question → Told
 ask m (polling n) = filled (room n m)
 ask m (identifying p n) = paged (identify n p m)
+ask m (knowing k n) = seen (known k n m)
 
--- by what is told of the namespace
-abbrev pub tell : Described → Question → Told
-tell d (polling n) = filled (roomOf d)
-tell d (identifying p n) = paged (identifyOf d p)
+-- the same of a namespace, with no memory
+abbrev pub tell : Namespace → Question → Told
+tell s (polling n) = filled (roomOf (describedAs n s))
+tell s (identifying p n) = paged (identifyOf (describedAs n s) p)
+tell s (knowing k n) = seen (knownIn k n s)
 
 -- a call with all that its caller gives: a formatting; a command with its entry, completion and data buffer; a question
 pub data Call : Type 0 where
@@ -71,10 +79,12 @@ lend c b m = record { completion = c; buffer = b; memory = m }
 abbrev pub numberIn : Told → ℕ
 numberIn (filled r) = r .number
 numberIn (paged i) = i .number
+numberIn (seen l) = l .number
 
 abbrev pub pageIn : Told → List ℕ
 pageIn (filled r) = []
 pageIn (paged i) = i .page
+pageIn (seen l) = []
 
 -- one call; where it has no completion or no data buffer these are empty, and a page stands as a data buffer does
 abbrev pub run : Memory → Call → Outcome

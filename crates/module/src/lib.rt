@@ -5,6 +5,8 @@ use formatting::formats::format_two;
 use formatting::measures::Half;
 use identify::creations::create;
 use identify::pages::identify;
+use quick::looks::Look;
+use quick::looks::known;
 use room::polls::Room;
 use room::polls::used_room;
 ghost use mathlib.Core.Path.{_≡_};
@@ -14,6 +16,7 @@ ghost use Rattle.formatting.specs.Formatting.{half, formatted, format};
 ghost use Rattle.commands.specs.Command.{post, lent, outcome, command};
 ghost use Rattle.room.specs.Room.{room};
 ghost use Rattle.identify.specs.Identify.{identified, identify, create};
+ghost use Rattle.quick.specs.Known.{known};
 
 #[no_mangle]
 pub extern "C" fn kv_format(
@@ -113,4 +116,11 @@ pub extern "C" fn kv_identify(page: &mut [u8], id: u32, directory: &[u8], values
         ⌜ identified r (now (page .exit)) ≡ identify id (now (page .entry)) (memory (now (directory .entry)) (now (values .entry))) ⌝ }
 {
     identify(page, id, directory, values)
+}
+
+#[no_mangle]
+pub extern "C" fn kv_known(key: &[u8], id: u32, directory: &[u8], values: &[u8]) -> Look
+    ensures { λ r. ⌜ r ≡ known (now (key .entry)) id (memory (now (directory .entry)) (now (values .entry))) ⌝ }
+{
+    known(key, id, directory, values)
 }

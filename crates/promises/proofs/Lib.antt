@@ -19,6 +19,8 @@ pub mod StandIns
 pub mod Members
 pub mod RequestLaws
 mod ShownLaws
+mod AlikeLaws
+mod PastLooks
 mod AnyMemory
 mod Bits
 pub mod Examples

@@ -1,26 +1,21 @@
 -- Bytes past the needed part change no outcome: on memories that differ in them alone each call gives the same number, completion and
 -- data buffer, a poll the same used room, and memories that differ in them alone. Assumes nothing.
 use mathlib.Core.Path.{_≡_, refl, sym, ap, _∙_}
-use mathlib.Core.Bool.{Bool, true, false, cond}
+use mathlib.Core.Bool.{Bool, true, false}
 use mathlib.Core.List.{List, [], _∷_}
-use Prim.Native.Nat.{ℕ, _+_, _*_, _≤_}
-use native.Mathlib.Omega.{arith}
-use lib.Dec.{eqb, ltb}
-use lib.ListN.{length, take, length-take}
-use borrow.Author.Tests.{eqb-true, ltb-true, ltb-false}
-use Rattle.octets.specs.Octets.{part}
-use Rattle.octets.proofs.TestLaws.{known, holds, fails, contrary}
-use Rattle.octets.proofs.PartLaws.{part-take}
+use Prim.Native.Nat.{ℕ}
+use lib.Dec.{eqb}
+use lib.ListN.{length}
+use borrow.Author.Tests.{eqb-true}
+use Rattle.octets.proofs.TestLaws.{known as split, holds, fails, contrary}
 use Rattle.wire.specs.declared.entries.Command.{Command}
 use Rattle.wire.specs.Entry.{readCommand}
-use Rattle.store.specs.declared.namespaces.Label.{Label}
-use Rattle.table.specs.Formats.{slots}
 use Rattle.store.specs.Maps.{Pair}
 use Rattle.store.specs.Namespace.{Namespace}
-use Rattle.memory.specs.Namespaces.{total, slotsOf, sizeOf, with}
+use Rattle.memory.specs.Namespaces.{slotsOf, sizeOf, with}
 use Rattle.memory.proofs.NameLaws.{with-total}
-use Rattle.memory.specs.Memory.{Memory, needed, neededValues, labelAt, labelIn, namespaceAt, namespacesOf, legal}
-use Rattle.memory.proofs.ImageLaws.{Holds, holds-back, holds-legal, legal-holds}
+use Rattle.memory.specs.Memory.{Memory, needed, neededValues, namespacesOf, legal}
+use Rattle.memory.proofs.ImageLaws.{Holds, legal-holds}
 use Rattle.rules.specs.Steps.{steps, statusOf}
 use Rattle.formatting.specs.declared.measures.Half.{Half}
 use Rattle.formatting.specs.Formatting.{blanks, formatSteps, format}
@@ -30,64 +25,17 @@ use Rattle.commands.proofs.CommandLaws.{entry-key, serve-is, serve-holds, comma
 use Rattle.maps.specs.declared.describes.Described.{Described}
 use Rattle.maps.specs.Describe.{describe}
 use Rattle.maps.proofs.DescribeLaws.{describe-held}
-use Rattle.identify.specs.Identify.{asked, create}
-use Rattle.module.specs.History.{Layout, one, two, fields, halves, begin, Question, idOf, ask, tell, numberIn, pageIn}
+use Rattle.room.specs.Room.{roomOf, room}
+use Rattle.identify.specs.Identify.{identifyOf, identify, asked, create}
+use Rattle.module.specs.History.{Layout, one, two, fields, halves, begin, Question, polling, identifying, knowing, filled, paged, seen, ask, numberIn, pageIn}
 use Rattle.module.specs.History.{Call, formatting, commanding, asking, lend, run}
-use Rattle.module.proofs.HistoryLaws.{begin-refused, begin-holds, ask-is}
+use Rattle.module.proofs.HistoryLaws.{begin-refused, begin-holds}
 use Rattle.promises.specs.Histories.{SameNeeded, begun}
 use Rattle.promises.specs.Requests.{call}
 use Rattle.promises.specs.Calls.{spacesFor, SameOutcome}
+use Rattle.promises.proofs.AlikeLaws.{Alike, alike-holds, alike-turned, alike-legal, short-same}
+use Rattle.promises.proofs.PastLooks.{past-known}
 use Rattle.promises.proofs.Examples.{onMemory, start, A, store}
-
--- ---- memories alike in the needed part, which is as long as the first one's head says
-
-abbrev Alike : Memory → Memory → Type 0
-Alike m n = SameNeeded (namespacesOf m) m n
-
-alike-holds : {ss : List Namespace} {m n : Memory} → Holds ss m → Alike m n → Holds ss n
-alike-holds h a =
-    let b = holds-back h in
-    record { within = h .within; directory = sym (rw b at (a .directory)) ∙ h .directory; values = sym (rw b at (a .values)) ∙ h .values }
-
--- what is needed, by the numbers in the two halves
-abbrev totalBy : (Label → ℕ) → List ℕ → ℕ
-totalBy f d = f (labelAt 0 d) + cond (eqb (labelAt 32 d .id) 0) 0 (f (labelAt 32 d) + 0)
-
-two-total : (f : Namespace → ℕ) (z : Bool) (s t : Namespace) → total f (s ∷ cond z [] (t ∷ [])) ≡ f s + cond z 0 (f t + 0)
-two-total f true s t = refl
-two-total f false s t = refl
-
-slots-by : (m : Memory) → total slotsOf (namespacesOf m) ≡ totalBy (λ h. slots (h .index)) (m .directory)
-unfolding namespacesOf namespaceAt
-slots-by m =
-    let s = namespaceAt 0 64 0 m in
-    two-total slotsOf (eqb (labelAt 32 (m .directory) .id) 0) s (namespaceAt 32 (64 + 32 * slotsOf s) (s .size) m)
-
-sizes-by : (m : Memory) → total sizeOf (namespacesOf m) ≡ totalBy (λ h. h .size) (m .directory)
-unfolding namespacesOf namespaceAt
-sizes-by m =
-    let s = namespaceAt 0 64 0 m in
-    two-total sizeOf (eqb (labelAt 32 (m .directory) .id) 0) s (namespaceAt 32 (64 + 32 * slotsOf s) (s .size) m)
-
-module _ {m n : Memory} (a : Alike m n) where
-  alike-label : (half : ℕ) → half + 32 ≤ 64 → labelAt half (n .directory) ≡ labelAt half (m .directory)
-  alike-label half h =
-      let i = needed (namespacesOf m) in
-      ap labelIn
-      (sym (part-take half 32 i (n .directory) (omega arith)) ∙ sym (ap (part half 32) (a .directory)) ∙ part-take half 32 i (m .directory) (omega arith))
-
-  alike-total : (f : Label → ℕ) → totalBy f (n .directory) ≡ totalBy f (m .directory)
-  alike-total f = rw (alike-label 0 (omega arith), alike-label 32 (omega arith))
-
-  alike-turned : Alike n m
-  alike-turned =
-      record {
-        directory = rw (slots-by n ∙ alike-total (λ h. slots (h .index)) ∙ sym (slots-by m)) (sym (a .directory));
-        values = rw (sizes-by n ∙ alike-total (λ h. h .size) ∙ sym (sizes-by m)) (sym (a .values));
-      }
-
-alike-legal : {m n : Memory} → Alike m n → legal m ≡ true → legal n ≡ true
-alike-legal {m} a e = holds-legal (alike-holds (legal-holds m e) a)
 
 -- what two memories hold, with other pairs in one namespace, is needed as before
 kept-needed : (i : ℕ) (ps : List Pair) (ss : List Namespace) {x y : Memory} → Holds (with i ps ss) x → Holds (with i ps ss) y → SameNeeded ss x y
@@ -150,16 +98,6 @@ module _ (m n : Memory) (a : Alike m n) (p : Post) (e c b : List ℕ) where
 
 -- ---- a formatting
 
--- whether a slice is too short shows in its needed part
-short-same : (k : ℕ) (xs ys : List ℕ) → take k xs ≡ take k ys → ltb (length xs) k ≡ ltb (length ys) k
-short-same k xs ys e = go (ltb (length xs) k) refl (ltb (length ys) k) refl
-  where
-    go : (x : Bool) → ltb (length xs) k ≡ x → (y : Bool) → ltb (length ys) k ≡ y → ltb (length xs) k ≡ ltb (length ys) k
-    go true f true g = f ∙ sym g
-    go false f false g = f ∙ sym g
-    go true f false g = absurd (omega (arith, simp length-take at (ap length e), ltb-true, ltb-false))
-    go false f true g = absurd (omega (arith, simp length-take at (ap length e), ltb-true, ltb-false))
-
 format-number : (hs : List Half) (m n : Memory) → SameNeeded (blanks hs) m n → format hs m .number ≡ format hs n .number
 unfolding format formatSteps
 format-number hs m n a =
@@ -177,7 +115,7 @@ module _ (l : Layout) (m n : Memory) (a : SameNeeded (blanks (halves l)) m n) wh
       go (one h) b = format-number (h ∷ []) m n b
       go (two h k) b = format-number (h ∷ k ∷ []) m n b
       go (fields s id) b =
-          elim (known (eqb (length s) 512)) [ holds q ↦ rw q (format-number (asked s id ∷ []) m n b) | fails q ↦ rw q ]
+          elim (split (eqb (length s) 512)) [ holds q ↦ rw q (format-number (asked s id ∷ []) m n b) | fails q ↦ rw q ]
 
   same-formatted : SameNeeded (blanks (halves l)) (begin l m .after) (begin l n .after)
   same-formatted = go (eqb (begin l m .number) 0) refl
@@ -202,7 +140,10 @@ past-described i m n a = go (legal m) refl (legal n) refl
     go false f false g = rw (f, g)
 
 pub past-told : (m n : Memory) (q : Question) → SameNeeded (namespacesOf m) m n → ask m q ≡ ask n q
-past-told m n q a = ask-is m q ∙ ap (λ (d : Described). tell d q) (past-described (idOf q) m n a) ∙ sym (ask-is n q)
+unfolding room identify
+past-told m n (polling i) a = ap (λ (d : Described). filled (roomOf d)) (past-described i m n a)
+past-told m n (identifying p i) a = ap (λ (d : Described). paged (identifyOf d p)) (past-described i m n a)
+past-told m n (knowing k i) a = ap seen (past-known a k i)
 
 -- ---- the promise
 

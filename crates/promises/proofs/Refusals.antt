@@ -17,7 +17,7 @@ use Rattle.maps.specs.Describe.{describe}
 use Rattle.formatting.specs.Formatting.{half}
 use Rattle.identify.specs.Identify.{identify}
 use Rattle.commands.specs.Command.{Post, Lent, Outcome}
-use Rattle.module.specs.History.{one, begin, Question, polling, identifying, ask, numberIn, pageIn, Call, formatting, commanding, asking, lend, run, status}
+use Rattle.module.specs.History.{one, begin, Question, polling, identifying, knowing, ask, numberIn, pageIn, Call, formatting, commanding, asking, lend, run, status}
 use Rattle.commands.proofs.CommandLaws.{command-0, command-1, command-2, serve-refused}
 use Rattle.module.proofs.HistoryLaws.{begin-refused}
 use Rattle.host.specs.Build as Build
@@ -32,6 +32,7 @@ use Rattle.promises.proofs.Examples.{onMemory, start, B, store}
 asked-left : (m : Memory) (q : Question) → ¬ (numberIn (ask m q) ≡ 0) → pageIn (ask m q) ≡ pageFor q
 unfolding identify
 asked-left m (polling n) h = refl
+asked-left m (knowing k n) h = refl
 asked-left m (identifying p n) h = go (eqb (length p) 4096) refl (eqb (describe n m .number) 0) refl
   where
     go : (x : Bool) → eqb (length p) 4096 ≡ x → (y : Bool) → eqb (describe n m .number) 0 ≡ y → identify n p m .page ≡ p

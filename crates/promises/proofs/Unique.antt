@@ -22,6 +22,9 @@ use Rattle.room.proofs.polls as polls
 use Rattle.identify.specs.Identify.{Identified, identified, identify}
 use Rattle.identify.proofs.creations as creations
 use Rattle.identify.proofs.pages as identifyPages
+use Rattle.quick.proofs.heads as heads
+use Rattle.quick.proofs.searches as searches
+use Rattle.quick.proofs.looks as quickLooks
 use Rattle.host.specs.Build.{Built, built, build}
 use Rattle.module.proofs.kv_format as kv_format
 use Rattle.module.proofs.kv_format_two as kv_format_two
@@ -29,6 +32,7 @@ use Rattle.module.proofs.kv_format_fields as kv_format_fields
 use Rattle.module.proofs.kv_command as kv_command
 use Rattle.module.proofs.kv_used as kv_used
 use Rattle.module.proofs.kv_identify as kv_identify
+use Rattle.module.proofs.kv_known as kv_known
 use Rattle.host.proofs.builder as builder
 use Rattle.host.proofs.replies as replies
 use Rattle.host.proofs.pages as hostPages
@@ -70,6 +74,9 @@ kv-used-one κs a x y u v p q = value p q
 
 pub kv-identify-one : Determines kv_identify.Kinds.ps kv_identify.Kinds.r kv_identify.Reads.Learnt
 kv-identify-one κs a x y u v p q = one p q (λ (i : Identified). i .number) (λ i. (i .page, (tt, (tt, (tt, tt)))))
+
+pub kv-known-one : Determines kv_known.Kinds.ps kv_known.Kinds.r kv_known.Reads.Learnt
+kv-known-one κs a x y u v p q = value p q
 
 pub kv-build-one : Determines builder.kv_build.Kinds.ps builder.kv_build.Kinds.r builder.kv_build.Reads.Learnt
 kv-build-one κs a x y u v p q = one p q (λ (b : Built). b .number) (λ b. (b .entry, (tt, (tt, (tt, (tt, (tt, (tt, tt))))))))
@@ -169,6 +176,17 @@ identify-one κs a x y u v p q = one p q (λ (i : Identified). i .number) (λ i.
 
 pub used-room-one : Determines polls.used_room.Kinds.ps polls.used_room.Kinds.r polls.used_room.Reads.Learnt
 used-room-one κs a x y u v p q = value p q
+
+-- ---- quick::heads, searches, looks
+
+pub find-run-one : Determines heads.find_run.Kinds.ps heads.find_run.Kinds.r heads.find_run.Reads.Learnt
+find-run-one κs a x y u v p q = value p q
+
+pub search-one : Determines searches.search.Kinds.ps searches.search.Kinds.r searches.search.Reads.Learnt
+search-one κs a x y u v p q = value p q
+
+pub known-one : Determines quickLooks.known.Kinds.ps quickLooks.known.Kinds.r quickLooks.known.Reads.Learnt
+known-one κs a x y u v p q = value p q
 
 -- ---- the same with the equation written out and taken apart: the exported functions that write slices, so that each thing yielded
 -- has its line

@@ -11,13 +11,14 @@ use Rattle.store.specs.Namespace.{Namespace}
 use Rattle.memory.specs.Memory.{Memory, namespacesOf}
 use Rattle.formatting.specs.Formatting.{blanks}
 use Rattle.commands.specs.Command.{Lent, Outcome}
-use Rattle.module.specs.History.{halves, Question, polling, identifying, Call, formatting, commanding, asking, lend, succeeded, status}
+use Rattle.module.specs.History.{halves, Question, polling, identifying, knowing, Call, formatting, commanding, asking, lend, succeeded, status}
 use Rattle.promises.specs.Histories.{SameNeeded}
 
 -- the slice that a question is lent for its answer
 abbrev pub pageFor : Question → List ℕ
 pageFor (polling n) = []
 pageFor (identifying p n) = p
+pageFor (knowing k n) = []
 
 -- all that a call is lent; where it has no completion or no data buffer these are empty
 abbrev pub lentTo : Memory → Call → Lent

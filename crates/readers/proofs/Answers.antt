@@ -13,14 +13,11 @@ use Rattle.wire.specs.Completion.{readCompletion}
 use Rattle.store.specs.Namespace.{Namespace}
 use Rattle.memory.specs.Namespaces.{at, with}
 use Rattle.memory.specs.Memory.{Memory}
-use Rattle.memory.proofs.NameLaws.{at-id, at-other, with-other}
+use Rattle.memory.proofs.NameLaws.{at-other, with-other}
 use Rattle.memory.proofs.ImageLaws.{Holds}
 use Rattle.commands.specs.Answer.{answer, pairsAfter}
 use Rattle.commands.specs.Command.{Post, completionOf, Outcome}
 use Rattle.commands.proofs.CommandLaws.{serve-is, command-0, command-1, command-2}
-use Rattle.maps.specs.declared.describes.Described.{Described}
-use Rattle.maps.specs.Describe.{described, undescribed}
-use Rattle.maps.proofs.DescribeLaws.{describe-held}
 use Rattle.module.specs.History.{idOf, tell, Call, formatting, commanding, asking, lend, run, succeeded, changed, told}
 use Rattle.module.proofs.HistoryLaws.{ask-is}
 use Rattle.farms.specs.Sides.{real}
@@ -39,7 +36,7 @@ replied p e c b s =
 abbrev alone : Call → Namespace → Given
 alone (formatting l) s = returned 0 [] []
 alone (commanding p e c b) s = replied p e c b s
-alone (asking q) s = learnt (tell (cond (eqb (idOf q) (s .id)) (described s) (undescribed 23)) q)
+alone (asking q) s = learnt (tell s q)
 
 module _ (ss : List Namespace) (m : Memory) (h : Holds ss m) where
   pub replied-is : (p : Post) (e c b : List ℕ) → given real m (commanding p e c b) ≡ replied p e c b (at (readCommand e .nsid) ss)
@@ -59,9 +56,7 @@ module _ (ss : List Namespace) (m : Memory) (h : Holds ss m) where
   given-is n (commanding p e c b) f =
       replied-is p e c b ∙ ap (λ (j : ℕ). replied p e c b (at j ss)) (sym (eqb-true n (readCommand e .nsid) f))
   given-is n (asking q) f =
-      let k = idOf q in
-      let d = describe-held k h ∙ ap (λ (z : Bool). cond z (described (at k ss)) (undescribed 23)) (sym (at-id k ss)) in
-      ap learnt (ask-is m q ∙ ap (λ (x : Described). tell x q) d) ∙ ap (λ (j : ℕ). alone (asking q) (at j ss)) (sym (eqb-true n k f))
+      ap learnt (ask-is q h) ∙ ap (λ (j : ℕ). alone (asking q) (at j ss)) (sym (eqb-true n (idOf q) f))
 
 -- so it is the same wherever n names the same
 pub given-same : (n : ℕ) (ss ts : List Namespace) (m k : Memory) (x : Call) → Holds ss m → Holds ts k → at n ss ≡ at n ts → named n x ≡ true

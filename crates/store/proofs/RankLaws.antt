@@ -26,7 +26,7 @@ rank-le k (j ∷ ks) =
     let r = rank-le k ks in
     elim (compared k j) [ less e ↦ rw e (omega arith) | equal e ↦ rw e (omega arith) | greater e ↦ rw e (omega arith) ]
 
-rank-lt : (k : Key) (ks : List Key) → hasKey k ks ≡ true → rank k ks < length ks
+pub rank-lt : (k : Key) (ks : List Key) → hasKey k ks ≡ true → rank k ks < length ks
 rank-lt k [] h = absurd (contrary h)
 rank-lt k (j ∷ ks) h =
     elim (compared k j) [ less e ↦ rw e (omega arith) | equal e ↦ rw e (omega arith) | greater e ↦ rw e (omega (arith, rank-lt k ks (rw e at h))) ]
@@ -35,7 +35,7 @@ pub from-rank : (k : Key) (ks : List Key) → from k ks ≡ drop (rank k ks) ks
 from-rank k [] = refl
 from-rank k (j ∷ ks) = elim (compared k j) [ less e ↦ rw e | equal e ↦ rw e | greater e ↦ rw e (from-rank k ks) ]
 
-first-below : (j : Key) (ks : List Key) (i : ℕ) → Rising (j ∷ ks) → i < length ks → Below j (getD ks i [])
+pub first-below : (j : Key) (ks : List Key) (i : ℕ) → Rising (j ∷ ks) → i < length ks → Below j (getD ks i [])
 first-below j [] i r h = absurd (omega arith)
 first-below j (k ∷ ks) zero r h = r .0
 first-below j (k ∷ ks) (suc i) r h = first-below j ks i (below-first-trans j k ks (r .0) (r .1 .0), r .1 .1) (omega arith)

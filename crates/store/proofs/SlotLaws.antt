@@ -6,7 +6,7 @@ use native.Mathlib.Nat.{zero-add}
 use native.Mathlib.Omega.{arith}
 use lib.ListN.{length, take, drop, length-append, length-drop, take-append-drop}
 use lib.Seq.{length-take-le, drop-cons, drop-at, split-at}
-use Rattle.octets.specs.Octets.{part, zeros}
+use Rattle.octets.specs.Octets.{part, zeros, filled}
 use Rattle.octets.proofs.PartLaws.{part-seam}
 use Rattle.octets.proofs.ZeroLaws.{zeros-behind}
 use Rattle.store.specs.Maps.{Pair, pair, values}
@@ -105,11 +105,14 @@ module _ {id n l : ℕ} {m : List Pair} {s vs : List ℕ} (h : Holds id n l m s 
   pub value-length-at : valueLength (drop (32 * i) s) ≡ length (p .value)
   value-length-at = rw slot (value-length-in id at p (r .0) behind (r .1))
 
+  pub sixteen-at : part 0 16 (drop (32 * i) s) ≡ filled 16 (p .key)
+  sixteen-at = rw slot (sixteen-in id at p (r .0) behind)
+
   pub key-fits-at : KeyFits (drop (32 * i) s)
   key-fits-at =
       record {
         short = rw key-length-at (r .0);
-        padded = rw (key-length-at, slot, sixteen-in id at p (r .0) behind) (zeros-behind 16 (p .key) refl);
+        padded = rw (key-length-at, sixteen-at) (zeros-behind 16 (p .key) refl);
       }
 
   pub value-at : valueIn (drop (32 * i) s) vs ≡ p .value

@@ -1,0 +1,1 @@
+// Definitions and theorems only: what a gate reader may rely on of the quick look.

@@ -1,0 +1,5 @@
+-- The laws of `specs/`, for the proofs of this crate and of those above it.
+pub mod SearchLaws
+pub mod HeadLaws
+pub mod KnownLaws
+pub mod SeenLaws

@@ -1,0 +1,2 @@
+-- The invariant of the search.
+mod Going

@@ -1,0 +1,4 @@
+pub mod Search
+pub mod Heads
+pub mod Known
+pub mod Seen
