@@ -3,7 +3,7 @@ use mathlib.Core.Path.{_≡_, refl, sym, ap, _∙_}
 use mathlib.Core.Bool.{Bool, true, _&&_, and-comm, and-true}
 use mathlib.Core.List.{List, [], _∷_, _++_}
 use Prim.Native.Nat.{ℕ, zero, suc, _+_, _-_, _*_, _%_, _^_, _≤_, _<_}
-use native.Mathlib.Nat.{zero-add, zero-mul, add-assoc, add-mul, mul-assoc, mul-le-mul-right, mul-add-mod-self-right}
+use native.Mathlib.Nat.{zero-add, add-zero, zero-mul, add-assoc, add-mul, mul-assoc, mul-le-mul-right, mul-add-mod-self-right}
 use native.Mathlib.Omega.{arith}
 use lib.Dec.{ltb, eqb}
 use lib.Pow.{pow-pos, pow-add, shl-exact}
@@ -11,7 +11,7 @@ use lib.ListN.{length, take, drop, length-drop, take-append-drop, drop-of-length
 use lib.Seq.{drop-append-le}
 use borrow.Author.Tests.{ne-eqb, le-ltb, ltb-true, ltb-false}
 use Rattle.keys.specs.declared.orders.Wide.{Wide}
-use Rattle.octets.specs.Octets.{part, allZero}
+use Rattle.octets.specs.Octets.{part, zeros, allZero}
 use Rattle.keys.specs.Keys.{big, bigFrom, wideOf, clearWide}
 use Rattle.octets.proofs.TestLaws.{known, holds, fails}
 use Rattle.octets.proofs.PartLaws.{length-part, drop-past}
@@ -58,19 +58,32 @@ times-zero (suc b) k =
     rw (ne-eqb (suc b * 2 ^ k) 0 (λ e. omega (arith, pow-pos k)), ne-eqb (suc b) 0 (λ e. omega arith))
 
 -- shifting the first n bytes out leaves the others
-shift-clear : (n : ℕ) (xs : List ℕ) → Bytes xs → n ≤ length xs → eqb (big xs * 2 ^ (8 * n) % 2 ^ (8 * length xs)) 0 ≡ allZero (drop n xs)
+pub shifted-out : (n : ℕ) (xs : List ℕ) → Bytes xs → n ≤ length xs → big xs * 2 ^ (8 * n) % 2 ^ (8 * length xs) ≡ big (drop n xs) * 2 ^ (8 * n)
 unfolding big
-shift-clear n xs b l =
+shifted-out n xs b l =
     let a = bigFrom 0 (take n xs) in
     let d = drop n xs in
     let k = 8 * length d in
     let e : bigFrom 0 xs ≡ a * 2 ^ k + bigFrom 0 d = ap (bigFrom 0) (sym (take-append-drop n xs)) ∙ big-append 0 (take n xs) d ∙ big-high a d in
     let w : 8 * length xs ≡ k + 8 * n = omega (arith, length-drop n xs) in
     let low : bigFrom 0 d < 2 ^ k = big-low d (bytes-drop n xs b) in
-    let x : bigFrom 0 xs * 2 ^ (8 * n) % 2 ^ (8 * length xs) ≡ bigFrom 0 d * 2 ^ (8 * n) =
     rw (w, e, add-mul (a * 2 ^ k) (bigFrom 0 d) (2 ^ (8 * n)), mul-assoc a (2 ^ k) (2 ^ (8 * n)), ← pow-add 2 k (8 * n), mul-add-mod-self-right)
-    (shl-exact k (8 * n) (k + 8 * n) low (omega arith)) in
-    rw (x, times-zero (bigFrom 0 d) (8 * n)) (big-zero 0 d)
+    (shl-exact k (8 * n) (k + 8 * n) low (omega arith))
+
+-- zeros behind a number stand below it
+zeros-below : (m n : ℕ) → bigFrom m (zeros n) ≡ m * 2 ^ (8 * n)
+zeros-below m zero = omega arith
+zeros-below m (suc n) = zeros-below (m * 256 + 0) n ∙ rw (more-bytes n, add-zero (m * 256)) (mul-assoc m 256 (2 ^ (8 * n)))
+
+pub big-zeros : (xs : List ℕ) (n : ℕ) → big (xs ++ zeros n) ≡ big xs * 2 ^ (8 * n)
+unfolding big
+big-zeros xs n = big-append 0 xs (zeros n) ∙ zeros-below (bigFrom 0 xs) n
+
+shift-clear : (n : ℕ) (xs : List ℕ) → Bytes xs → n ≤ length xs → eqb (big xs * 2 ^ (8 * n) % 2 ^ (8 * length xs)) 0 ≡ allZero (drop n xs)
+unfolding big
+shift-clear n xs b l =
+    let d = drop n xs in
+    rw (shifted-out n xs b l, times-zero (bigFrom 0 d) (8 * n)) (big-zero 0 d)
 
 zero-big : (ys : List ℕ) → eqb (big ys) 0 ≡ allZero ys
 unfolding big

@@ -1,3 +1,3 @@
 // Keys and their order, of slices and of sixteen bytes. Each contract is one equation in the words of `specs/Keys.antt`.
 pub mod orders;
-mod wide;
+pub mod wide;

@@ -8,9 +8,10 @@ use native.Mathlib.Nat.{zero-add, add-zero, add-assoc}
 use native.Mathlib.Omega.{arith}
 use lib.Dec.{ltb, leb, eqb}
 use lib.ListN.{length}
-use borrow.Author.Tests.{eqb-true, eqb-false, ne-eqb, le-leb, lt-leb, leb-true, le-ltb, ltb-false, not-false}
+use borrow.Author.Tests.{eqb-true, eqb-false, eq-eqb, ne-eqb, le-leb, lt-leb, leb-true, le-ltb, ltb-false, not-true, not-false}
 use Rattle.octets.specs.Octets.{part, number}
 use Rattle.octets.specs.Tests.{all}
+use Rattle.octets.proofs.PartLaws.{part-inside}
 use Rattle.octets.proofs.TestLaws.{known, holds, fails, refuted, contrary, both, neither, All, all-true, true-all}
 use Rattle.table.specs.declared.formats.Format.{Format}
 use Rattle.table.specs.Formats.{formatOf, slots}
@@ -52,14 +53,34 @@ sound-is h e =
 pub index-in : (i : ℕ) (x y : Bool) → ((leb i 15 && x) && y) ≡ true → i < 16
 index-in i x y e = omega (arith, leb-true i 15 (both (leb i 15) x (both (leb i 15 && x) y e .0) .0))
 
-module _ (h : Label) {f : Format} (n : ¬ (h .id ≡ 0)) (p : f ≡ formatOf (h .index)) (e : ((leb (h .index) 15 && leb 1 (h .size)) && leb (h .size) 65536) ≡ true) where
-  pub claim-fits : h .count ≤ f .maxkeys → record { sound = true; slots = f .maxkeys; size = h .size } ≡ claimOf h
-  unfolding claimOf
-  claim-fits l = rw (ne-eqb (h .id) 0 n, e, le-leb (h .count) (slots (h .index)) (rw p at l), p)
+abbrev noClaim : Claim
+noClaim = record { sound = false; slots = 0; size = 0 }
 
-  pub claim-over : f .maxkeys < h .count → record { sound = false; slots = 0; size = 0 } ≡ claimOf h
+-- by the words of a half
+module _ (h : Label) {id : ℕ} (p : id ≡ h .id) where
+  pub claim-empty : id ≡ 0 → record { sound = true; slots = 0; size = 0 } ≡ claimOf h
   unfolding claimOf
-  claim-over l = rw (ne-eqb (h .id) 0 n, e, lt-leb (h .count) (slots (h .index)) (rw p at l))
+  claim-empty e = rw (sym p ∙ e)
+
+  module _ (n : ¬ (id ≡ 0)) {i z : ℕ} (q : i ≡ h .index) (r : z ≡ h .size) where
+    named : eqb (h .id) 0 ≡ false
+    named = ne-eqb (h .id) 0 (λ e. n (p ∙ e))
+
+    pub claim-none : ((leb i 15 && leb 1 z) && leb z 65536) ≡ false → noClaim ≡ claimOf h
+    unfolding claimOf
+    claim-none e = rw (named, rw (q, r) at e)
+
+    module _ (e : ((leb i 15 && leb 1 z) && leb z 65536) ≡ true) {f : Format} (s : f ≡ formatOf i) {c : ℕ} (u : c ≡ h .count) where
+      same : f .maxkeys ≡ slots (h .index)
+      same = ap (λ (g : Format). g .maxkeys) (s ∙ ap formatOf q)
+
+      pub claim-fits : c ≤ f .maxkeys → record { sound = true; slots = f .maxkeys; size = z } ≡ claimOf h
+      unfolding claimOf
+      claim-fits l = rw (named, rw (q, r) at e, le-leb (h .count) (slots (h .index)) (rw (u, same) at l), same, r)
+
+      pub claim-over : f .maxkeys < c → noClaim ≡ claimOf h
+      unfolding claimOf
+      claim-over l = rw (named, rw (q, r) at e, lt-leb (h .count) (slots (h .index)) (rw (u, same) at l))
 
 pub record Claimed (h : Label) (a : Claim) : Type 0 where
   pub sound : sound h ≡ true
@@ -92,17 +113,20 @@ module _ (id : ℕ) (h t : Label) (d v : ℕ) where
   run-by e f p q =
       rw (true-all (needTests h t d v) (le-leb 64 d (omega arith), (e, (f, (le-leb _ d p, (le-leb _ v q, tt))))))
 
-module _ (id : ℕ) (h t : Label) (d v : ℕ) {a b : Claim} (p : a ≡ claimOf h) (q : b ≡ claimOf t) where
+module _ (id : ℕ) (h t : Label) (d v : ℕ) where
   sound-claim : (l : Label) {c : Claim} → c ≡ claimOf l → sound l ≡ true → c .sound ≡ true
   unfolding claimOf
   sound-claim l r e = ap (λ (c : Claim). c .sound) r ∙ rw e
 
-  pub unsound-6 : not (a .sound && b .sound) ≡ true → noRun 6 ≡ runBy id h t d v
-  unsound-6 e = run-6 id h t d v (λ n. contrary (rw (sound-claim h p (n .1 .0), sound-claim t q (n .1 .1 .0)) at e))
+  pub first-6 : {a : Claim} → a ≡ claimOf h → not (a .sound) ≡ true → noRun 6 ≡ runBy id h t d v
+  first-6 p e = run-6 id h t d v (λ n. contrary (sym (not-true _ e) ∙ sound-claim h p (n .1 .0)))
 
-  module _ (e : not (a .sound && b .sound) ≡ false) where
+  pub second-6 : {b : Claim} → b ≡ claimOf t → not (b .sound) ≡ true → noRun 6 ≡ runBy id h t d v
+  second-6 q e = run-6 id h t d v (λ n. contrary (sym (not-true _ e) ∙ sound-claim t q (n .1 .1 .0)))
+
+  module _ {a b : Claim} (p : a ≡ claimOf h) (q : b ≡ claimOf t) (e : not (a .sound) ≡ false) (f : not (b .sound) ≡ false) where
     pub claims : Claimed h a × Claimed t b
-    claims = let s = both (a .sound) (b .sound) (not-false _ e) in (claimed h p (s .0), claimed t q (s .1))
+    claims = (claimed h p (not-false _ e), claimed t q (not-false _ f))
 
     pub short-6 : (ltb d (64 + 32 * (a .slots + b .slots)) || ltb v (a .size + b .size)) ≡ true → noRun 6 ≡ runBy id h t d v
     short-6 l =
@@ -119,6 +143,37 @@ module _ (id : ℕ) (h t : Label) (d v : ℕ) {a b : Claim} (p : a ≡ claimOf h
         let y = ltb-false v _ (n .1) in
         sym (run-by id h t d v (claims .0 .sound) (claims .1 .sound) (rw (claims .0 .slots, claims .1 .slots) at x)
         (rw (claims .0 .size, claims .1 .size) at y))
+
+-- ---- the half that an id names, by the words of the head
+
+module _ (half : ℕ) (d : List ℕ) where
+  id-at : labelAt half d .id ≡ number (part half 4 d)
+  unfolding labelIn
+  id-at = ap number (part-inside half 32 0 4 d (omega arith)) ∙ rw (add-zero half)
+
+  count-at : labelAt half d .count ≡ number (part (half + 12) 4 d)
+  unfolding labelIn
+  count-at = ap number (part-inside half 32 12 4 d (omega arith))
+
+module _ (id : ℕ) (d : List ℕ) where
+  pub choose-0 : id ≡ 0 → noRun 23 ≡ chosen id (labelAt 0 d) (labelAt 32 d)
+  choose-0 e = rw e
+
+  module _ (n : ¬ (id ≡ 0)) {i : ℕ} (p : i ≡ number (part 0 4 d)) where
+    pub choose-first : id ≡ i → {c : ℕ} → c ≡ number (part 12 4 d)
+        → record { number = 0; first = 0; count = c } ≡ chosen id (labelAt 0 d) (labelAt 32 d)
+    choose-first e q = rw (ne-eqb id 0 n, eq-eqb id (labelAt 0 d .id) (e ∙ p ∙ sym (id-at 0 d)), count-at 0 d, q)
+
+    module _ (f : ¬ (id ≡ i)) {j : ℕ} (q : j ≡ number (part 32 4 d)) where
+      other : eqb id (labelAt 0 d .id) ≡ false
+      other = ne-eqb id (labelAt 0 d .id) (λ e. f (e ∙ id-at 0 d ∙ sym p))
+
+      pub choose-second : id ≡ j → {s c : ℕ} → s ≡ slotsBy (labelAt 0 d) → c ≡ number (part 44 4 d)
+          → record { number = 0; first = s; count = c } ≡ chosen id (labelAt 0 d) (labelAt 32 d)
+      choose-second e u r = rw (ne-eqb id 0 n, other, eq-eqb id (labelAt 32 d .id) (e ∙ q ∙ sym (id-at 32 d)), count-at 32 d, u, r)
+
+      pub choose-none : ¬ (id ≡ j) → noRun 23 ≡ chosen id (labelAt 0 d) (labelAt 32 d)
+      choose-none g = rw (ne-eqb id 0 n, other, ne-eqb id (labelAt 32 d .id) (λ e. g (e ∙ id-at 32 d ∙ sym q)))
 
 -- ---- the run that is chosen
 

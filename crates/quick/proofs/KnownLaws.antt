@@ -11,7 +11,7 @@ use lib.ListN.{length, drop, getD}
 use borrow.Author.Tests.{eq-eqb, ltb-false}
 use Rattle.octets.specs.Octets.{part, number, filled}
 use Rattle.octets.proofs.TestLaws.{known as split, holds, fails, neither}
-use Rattle.octets.proofs.PartLaws.{length-part, part-drop, part-whole, part-inside}
+use Rattle.octets.proofs.PartLaws.{length-part, part-drop, part-inside}
 use Rattle.octets.proofs.NumberLaws.{Bytes, bytes-part}
 use Rattle.octets.proofs.ZeroLaws.{length-filled, bytes-filled}
 use Rattle.keys.specs.declared.orders.Order.{Order}
@@ -97,12 +97,11 @@ module _ (k : Key) (id : ℕ) (m : Memory) where
     known-looked o z h =
         rw (e, ← q, z) (alike-look 0 (search-alike (r .count) o _ (r .first) (r .first) (r .count) h))
 
-    -- the search that code has made, with the key in sixteen bytes
-    pub known-found : {w : Wide} {x : List ℕ} → x ≡ filled 16 k → w ≡ wideOf (part 0 16 x) (length k) → Bytes k → Bytes (m .directory) → r .number ≡ 0
+    -- the search that code has made
+    pub known-found : {w : Wide} → w ≡ wideOf (filled 16 k) (length k) → Bytes k → Bytes (m .directory) → r .number ≡ 0
         → lookOf 0 (search (r .count) (λ j. orderWide w (wideIn (drop (32 * j) (behind (m .directory))))) (r .first) (r .count)) ≡ known k id m
-    known-found {w} {x} f g bk bd z =
+    known-found {w} c bk bd z =
         let l = short-key k e in
-        let c : w ≡ wideOf (filled 16 k) (length k) = g ∙ ap (λ (y : List ℕ). wideOf y (length k)) (ap (part 0 16) f ∙ part-whole 16 (filled 16 k) (length-filled 16 k l)) in
         known-looked _ z (λ j h. rw c (compared-at k (m .directory) (bytes-filled 16 k bk) bd l (r .first + j) (omega (arith, run-lies id m q z .1))))
 
   known-run : noKey k ≡ false → (first n : ℕ) → runOf id m ≡ record { number = 0; first = first; count = n }

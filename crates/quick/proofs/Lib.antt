@@ -2,4 +2,5 @@
 pub mod SearchLaws
 pub mod HeadLaws
 pub mod KnownLaws
+mod TagLaws
 pub mod SeenLaws

@@ -1,2 +1,3 @@
--- The invariant of the search.
+-- The invariant of the search, and a key beside a record.
 mod Going
+mod Meets

@@ -2,3 +2,4 @@
 pub mod heads;
 pub mod looks;
 pub mod searches;
+pub mod tags;

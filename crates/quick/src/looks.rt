@@ -1,8 +1,7 @@
 // Whether a namespace has a key.
 use crate::heads::find_run;
 use crate::searches::search;
-use keys::orders::pad;
-use keys::orders::widen;
+use crate::tags::widen_key;
 use memory::labels::HEAD;
 ghost use mathlib.Core.Path.{_≡_};
 ghost use Rattle.memory.specs.Memory.{memory};
@@ -38,12 +37,10 @@ pub fn known(key: &[u8], id: u32, directory: &[u8], values: &[u8]) -> Look
     if run.number != 0 {
         return no_look(run.number);
     }
-    let sixteen = pad(key);
-    let wanted = widen(&sixteen, 0, n as u64);
     search(
         &directory[HEAD..directory.len()],
         run.first,
         run.count,
-        wanted,
+        widen_key(key),
     )
 }

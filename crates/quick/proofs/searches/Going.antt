@@ -1,15 +1,14 @@
 -- The search at the loop's head: what is left to look at decides the answer, and with what was looked at makes up the count. Assumes nothing.
-use mathlib.Core.Path.{_≡_, refl, sym, ap, _∙_}
-use mathlib.Core.Bool.{Bool, true, false}
+use mathlib.Core.Path.{_≡_, refl, ap}
+use mathlib.Core.Bool.{true, false}
 use mathlib.Core.List.{List, []}
 use Prim.Native.Nat.{ℕ, zero, suc, _+_, _-_, _*_, _/_, _≤_, _<_}
 use native.Mathlib.Omega.{arith}
 use lib.ListN.{length, drop}
-use Rattle.octets.proofs.TestLaws.{contrary}
 use Rattle.keys.specs.declared.orders.Order.{Order}
 use Rattle.keys.specs.declared.orders.Order.the-variants.{Less, Equal, Greater}
 use Rattle.keys.specs.declared.orders.Wide.{Wide}
-use Rattle.keys.specs.Keys.{isLess, isEqual, orderWide}
+use Rattle.keys.specs.Keys.{orderWide}
 use Rattle.store.specs.Records.{wideIn}
 use Rattle.quick.specs.Search.{search}
 use Rattle.quick.specs.Known.{lookOf}
@@ -18,26 +17,6 @@ use Rattle.quick.proofs.SearchLaws.{search-less, search-here, search-gr
 -- how the key compares with the one of slot j
 abbrev pub met : List ℕ → Wide → ℕ → Order
 met s w j = orderWide w (wideIn (drop (32 * j) s))
-
--- a test of the record that was read is one of the slot
-pub tested : {v u : Wide} {t : Bool} (f : Order → Bool) (w : Wide) → v ≡ u → t ≡ f (orderWide w v) → t ≡ f (orderWide w u)
-tested f w e d = d ∙ ap (λ (v : Wide). f (orderWide w v)) e
-
--- what the two tests say
-pub equal-is : {t : Bool} {o : Order} → t ≡ isEqual o → t ≡ true → o ≡ Equal
-equal-is {o = Less} e t = absurd (contrary (sym e ∙ t))
-equal-is {o = Equal} e t = refl
-equal-is {o = Greater} e t = absurd (contrary (sym e ∙ t))
-
-pub less-is : {t : Bool} {o : Order} → t ≡ isLess o → t ≡ true → o ≡ Less
-less-is {o = Less} e t = refl
-less-is {o = Equal} e t = absurd (contrary (sym e ∙ t))
-less-is {o = Greater} e t = absurd (contrary (sym e ∙ t))
-
-pub greater-is : {s t : Bool} {o : Order} → s ≡ isEqual o → s ≡ false → t ≡ isLess o → t ≡ false → o ≡ Greater
-greater-is {o = Less} e s f t = absurd (contrary (sym t ∙ f))
-greater-is {o = Equal} e s f t = absurd (contrary (sym s ∙ e))
-greater-is {o = Greater} e s f t = refl
 
 pub record Going (o : ℕ → Order) (first count low left looked : ℕ) : Type 0 where
   pub inside : low + left ≤ first + count

@@ -21,11 +21,6 @@ returns-2 c =
 abbrev start : tie.Else1 → tie.Start
 start i = i .before .before .before .before
 
-pad-requires : tie.Need-pad-requires
-pad-requires c κs =
-    let i = c .before .before .before in
-    short-key (start i .args .key .now) (i .if1 .left)
-
 -- the run that was found
 lies : (c : tie.Else2)
     → let f = c .before .before in
@@ -35,28 +30,30 @@ lies c =
     let f = c .before .before in
     run-lies _ _ (f .find-run .ensures) (c .if2 .left)
 
-abbrev found : tie.After-widen → tie.Else2
-found c = c .before .before .before
+widen-key-requires : tie.Need-widen-key-requires
+widen-key-requires c κs =
+    let i = c .before .before .before .before in
+    short-key (start i .args .key .now) (i .if1 .left)
 
 search-requires : tie.Need-search-requires
 search-requires c κs =
-    let e = found (c .before) in
+    let e = c .before .before in
     let d = start (e .before .before .before) .args .directory .now in
     (lies e .0, omega (arith, lies e .1, length-take (length d - 64) (drop 64 d), length-drop 64 d))
 
 returns-3 : tie.Need-returns-3
 unfolding part
 returns-3 c =
-    let w = c .before .before in
-    let e = found w in
+    let w = c .before in
+    let e = w .before .before in
     let f = e .before .before in
     let i = f .before in
     c .search .ensures
-    ∙ known-found _ _ _ (i .if1 .left) (f .find-run .ensures) (w .before .before .pad .ensures) (w .widen .ensures)
-    (λ j l. i .before .before .before .shared-slice-known .given j .fits) (λ j l. i .before .before .shared-slice-known2 .given j .fits) (e .if2 .left)
+    ∙ known-found _ _ _ (i .if1 .left) (f .find-run .ensures) (w .widen-key .ensures) (λ j l. i .before .before .before .shared-slice-known .given j .fits)
+    (λ j l. i .before .before .shared-slice-known2 .given j .fits) (e .if2 .left)
 
 pub known-spec : {M : Type 1} → statement M
 known-spec =
     tie.close
-    (tie.spec (λ c κs. search needs) returns (λ c κs. search needs) (λ c κs. search needs) returns-2 pad-requires (λ c. search needs) (λ c κs. search needs)
-    (λ c. omega (arith, lies (found c))) (λ c. omega (arith, lies (found c))) (λ c. search needs) search-requires returns-3)
+    (tie.spec (λ c κs. search needs) returns (λ c κs. search needs) (λ c κs. search needs) returns-2 (λ c. omega (arith, lies c))
+    (λ c. omega (arith, lies c)) (λ c. search needs) widen-key-requires search-requires returns-3)
