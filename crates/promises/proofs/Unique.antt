@@ -24,6 +24,7 @@ use Rattle.identify.proofs.creations as creations
 use Rattle.identify.proofs.pages as identifyPages
 use Rattle.quick.proofs.heads as heads
 use Rattle.quick.proofs.searches as searches
+use Rattle.quick.proofs.tags as tags
 use Rattle.quick.proofs.looks as quickLooks
 use Rattle.host.specs.Build.{Built, built, build}
 use Rattle.module.proofs.kv_format as kv_format
@@ -177,13 +178,16 @@ identify-one κs a x y u v p q = one p q (λ (i : Identified). i .number) (λ i.
 pub used-room-one : Determines polls.used_room.Kinds.ps polls.used_room.Kinds.r polls.used_room.Reads.Learnt
 used-room-one κs a x y u v p q = value p q
 
--- ---- quick::heads, searches, looks
+-- ---- quick::heads, searches, tags, looks
 
 pub find-run-one : Determines heads.find_run.Kinds.ps heads.find_run.Kinds.r heads.find_run.Reads.Learnt
 find-run-one κs a x y u v p q = value p q
 
 pub search-one : Determines searches.search.Kinds.ps searches.search.Kinds.r searches.search.Reads.Learnt
 search-one κs a x y u v p q = value p q
+
+pub widen-key-one : Determines tags.widen_key.Kinds.ps tags.widen_key.Kinds.r tags.widen_key.Reads.Learnt
+widen-key-one κs a x y u v p q = value p q
 
 pub known-one : Determines quickLooks.known.Kinds.ps quickLooks.known.Kinds.r quickLooks.known.Reads.Learnt
 known-one κs a x y u v p q = value p q

@@ -3,6 +3,7 @@ use mathlib.Core.Path.{_≡_, refl, sym, ap, _∙_}
 use mathlib.Core.List.{List}
 use Prim.Native.Nat.{ℕ}
 use Rattle.keys.proofs.orders as orders
+use Rattle.keys.proofs.wide as wide
 use Rattle.octets.proofs.runs as runs
 use Rattle.octets.proofs.words as words
 use Rattle.wire.proofs.completions as completions
@@ -20,7 +21,10 @@ use Rattle.verbs.proofs.slots as slots
 use Rattle.promises.specs.Unique.{Determines}
 use Rattle.promises.proofs.Unique.{value, slice}
 
--- ---- keys::orders
+-- ---- keys::orders, wide
+
+pub read-big-one : Determines wide.read_big.Kinds.ps wide.read_big.Kinds.r wide.read_big.Reads.Learnt
+read-big-one κs a x y u v p q = value p q
 
 pub compare-one : Determines orders.compare.Kinds.ps orders.compare.Kinds.r orders.compare.Reads.Learnt
 compare-one κs a x y u v p q = value p q
