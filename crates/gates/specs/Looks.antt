@@ -35,8 +35,8 @@ SaysHistory f =
     (a : Start) (xs : List Call) (k : Key) (n : ℕ) → begun a .number ≡ 0 → held n (storedAfter a xs) ≡ true → noKey k ≡ false
     → Says k (storedIn n a xs .pairs) (f k n (memoryAfter a xs))
 
--- on any memory: the slots that the definition names are as many as are said, never more than eleven, and memory that agrees in the lengths, in the
--- head and in those slots gets the same
+-- on any memory: the slots that the definition names are as many as are said, never more than eleven, and no byte but theirs and the head's decides,
+-- where the lengths are the same
 pub record GoesBy (f : Looker) : Type 0 where
   pub counts : (k : Key) (n : ℕ) (m : Memory) → f k n m .looked ≡ length (searchFor k n m .slots)
   pub eleven : (k : Key) (n : ℕ) (m : Memory) → f k n m .looked ≤ 11
