@@ -97,7 +97,7 @@ struct kv_look {
 
 /* Whether namespace `id` has the key, by halving among its records: for a gate that wants an answer in some hundreds of instructions. Unlike
  * every other call it does not ask whether memory is legal: it reads the head and the records that it looks at, and of the value slice its
- * length. On legal memory it says yes exactly if the key is stored; on other memory it says what those bytes say. It never reads past the slices.
+ * length. In legal memory the answer is whether the key is stored; in other memory it is what those bytes say. It never reads past the slices.
  * Numbers, tried in this order: 15; 6 where the directory has fewer than 64 bytes, or where a half of the head with an id other than 0 has a
  * format index above 15, a size outside 1 to 65,536 or more keys than its format allows, or where a slice is shorter than such halves need
  * together; 23. */
