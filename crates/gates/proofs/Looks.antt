@@ -17,7 +17,7 @@ use Rattle.quick.specs.Search.{searchKeys}
 use Rattle.quick.specs.Known.{noKey, noLook, known}
 use Rattle.quick.proofs.SearchLaws.{search-few, search-finds}
 use Rattle.quick.proofs.KnownLaws.{known-held}
-use Rattle.quick.proofs.SeenLaws.{looked-eleven, same-seen}
+use Rattle.quick.proofs.SeenLaws.{looked-few, looked-eleven, same-seen}
 use Rattle.module.specs.History.{Call}
 use Rattle.promises.specs.Histories.{Start, begun, memoryAfter, storedAfter}
 use Rattle.promises.proofs.RequestLaws.{holds-after}
@@ -47,7 +47,7 @@ says-history a xs k n ok t q = says-held (holds-after a xs ok) k n q t
 
 pub goes-by : GoesBy known
 unfolding known
-goes-by = record { counts = λ k n m. refl; eleven = looked-eleven; same = λ k n m o s. same-seen k n m o s .1 }
+goes-by = record { counts = λ k n m. refl; few = looked-few; eleven = looked-eleven; same = λ k n m o s. same-seen k n m o s .1 }
 
 -- an id that the history holds under no namespace
 pub unheld : (a : Start) (xs : List Call) (k : Key) (n : ℕ) → begun a .number ≡ 0 → held n (storedAfter a xs) ≡ false → noKey k ≡ false

@@ -1,6 +1,6 @@
 -- What a gate reader is promised of the quick look (request [4]), and devices that are to be told from the module by it. Assumes nothing.
 use mathlib.Core.Path.{_≡_}
-use mathlib.Core.Bool.{true, false, cond, not}
+use mathlib.Core.Bool.{true, false, cond}
 use mathlib.Core.List.{List}
 use Prim.Native.Nat.{ℕ, suc, _^_, _≤_, _<_}
 use lib.ListN.{length}
@@ -9,7 +9,7 @@ use Rattle.store.specs.Maps.{Pair, present}
 use Rattle.memory.specs.Namespaces.{held}
 use Rattle.memory.specs.Memory.{Memory, namespacesOf, pairsAt, legal}
 use Rattle.quick.specs.declared.looks.Look.{Look}
-use Rattle.quick.specs.Known.{noKey, searchFor, known}
+use Rattle.quick.specs.Known.{noKey, runFor, searchFor, known}
 use Rattle.quick.specs.Seen.{SameSeen}
 use Rattle.module.specs.History.{Call}
 use Rattle.promises.specs.Histories.{Start, begun, memoryAfter, storedAfter, storedIn}
@@ -35,10 +35,11 @@ SaysHistory f =
     (a : Start) (xs : List Call) (k : Key) (n : ℕ) → begun a .number ≡ 0 → held n (storedAfter a xs) ≡ true → noKey k ≡ false
     → Says k (storedIn n a xs .pairs) (f k n (memoryAfter a xs))
 
--- on any memory: the slots that the definition names are as many as are said, never more than eleven, and no byte but theirs and the head's decides,
--- where the lengths are the same
+-- on any memory: the slots that the definition names are as many as are said, at most i where the half says fewer than 2^i keys, never more than
+-- eleven; and no byte but theirs and the head's decides, where the lengths are the same
 pub record GoesBy (f : Looker) : Type 0 where
   pub counts : (k : Key) (n : ℕ) (m : Memory) → f k n m .looked ≡ length (searchFor k n m .slots)
+  pub few : (k : Key) (n : ℕ) (m : Memory) (i : ℕ) → runFor k n m .count < 2 ^ i → f k n m .looked ≤ i
   pub eleven : (k : Key) (n : ℕ) (m : Memory) → f k n m .looked ≤ 11
   pub same : (k : Key) (n : ℕ) (m o : Memory) → SameSeen (searchFor k n m .slots) m o → f k n m ≡ f k n o
 
