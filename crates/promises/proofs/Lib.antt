@@ -7,10 +7,6 @@ pub mod StoreAgain
 pub mod Answers
 pub mod Room
 pub mod NeverStored
-pub mod Refusals
-pub mod Unread
-pub mod OnlyAnswers
-pub mod Past
 pub mod Agreement
 pub mod Unique
 pub mod UniqueBelow
@@ -19,8 +15,6 @@ pub mod StandIns
 pub mod Members
 pub mod RequestLaws
 mod ShownLaws
-mod AlikeLaws
-mod PastLooks
-mod AnyMemory
-mod Bits
+pub mod AnyMemory
+pub mod Bits
 pub mod Examples

@@ -3,7 +3,6 @@ pub mod Numbers
 pub mod Histories
 pub mod Requests
 pub mod Calls
-pub mod Unread
 pub mod Walks
 pub mod Retrieves
 pub mod Agreement

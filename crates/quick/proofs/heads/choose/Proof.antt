@@ -1,6 +1,6 @@
 use mathlib.Core.Path.{_∙_}
 use borrow.Author.Needs.{needs}
-use Rattle.quick.proofs.HeadLaws.{choose-0, choose-first, choose-second, choose-none}
+use Rattle.quick.proofs.ClaimLaws.{choose-0, choose-first, choose-second, choose-none}
 use Rattle.quick.proofs.heads.choose.Statement.{statement}
 use Rattle.quick.proofs.heads.choose.Tie as tie
 

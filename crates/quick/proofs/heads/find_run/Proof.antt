@@ -4,7 +4,7 @@ use borrow.Author.Needs.{needs}
 use borrow.Author.Tests.{lt-leb}
 use Rattle.octets.specs.Octets.{part}
 use Rattle.quick.specs.Heads.{runBy, runOf}
-use Rattle.quick.proofs.HeadLaws.{first-6, second-6, claims, short-6, chosen-run}
+use Rattle.quick.proofs.ClaimLaws.{first-6, second-6, claims, short-6, chosen-run}
 use Rattle.quick.proofs.heads.find_run.Statement.{statement}
 use Rattle.quick.proofs.heads.find_run.Tie as tie
 

@@ -1,6 +1,6 @@
 use borrow.Author.Needs.{needs}
 use Rattle.memory.specs.Memory.{labelIn}
-use Rattle.quick.proofs.HeadLaws.{index-in, claim-empty, claim-none, claim-fits, claim-over}
+use Rattle.quick.proofs.ClaimLaws.{index-in, claim-empty, claim-none, claim-fits, claim-over}
 use Rattle.quick.proofs.heads.judge.Statement.{statement}
 use Rattle.quick.proofs.heads.judge.Tie as tie
 

@@ -21,12 +21,12 @@ use Rattle.module.specs.History.{one, begin, Question, polling, identifying, kn
 use Rattle.commands.proofs.CommandLaws.{command-0, command-1, command-2, serve-refused}
 use Rattle.module.proofs.HistoryLaws.{begin-refused}
 use Rattle.host.specs.Build as Build
 use Rattle.promises.specs.Agreement.{Ask, builds}
 use Rattle.promises.specs.Histories.{begun}
 use Rattle.promises.specs.Requests.{Request, call, sends}
-use Rattle.promises.specs.Calls.{pageFor, lentTo, Spares}
+use Rattle.lending.specs.Calls.{pageFor, lentTo, Spares}
 use Rattle.promises.proofs.AnyMemory.{any-served, any-status}
 use Rattle.promises.proofs.Examples.{onMemory, start, B, store}
 
 -- a question that is refused leaves the slice that it is lent
 asked-left : (m : Memory) (q : Question) → ¬ (numberIn (ask m q) ≡ 0) → pageIn (ask m q) ≡ pageFor q

@@ -20,7 +20,7 @@ use Rattle.quick.specs.Heads.{sizeBy, runBy, runOf}
 use Rattle.quick.specs.Known.{recordAt, searchFor, known}
 use Rattle.quick.proofs.SearchLaws.{each-map}
 use Rattle.quick.proofs.SeenLaws.{slotsAsked, seen-lies, seen-known}
-use Rattle.promises.proofs.AlikeLaws.{Alike, totalBy, slots-by, sizes-by, alike-label, short-same}
+use Rattle.lending.proofs.AlikeLaws.{Alike, totalBy, slots-by, sizes-by, alike-label, short-same}
 
 module _ {m n : Memory} (a : Alike m n) where
   abbrev asked-for : (Label → ℕ) → ℕ

@@ -30,12 +30,12 @@ use Rattle.identify.specs.Identify.{identifyOf, identify, asked, create}
 use Rattle.module.specs.History.{Layout, one, two, fields, halves, begin, Question, polling, identifying, knowing, filled, paged, seen, ask, numberIn, pageIn}
 use Rattle.module.specs.History.{Call, formatting, commanding, asking, lend, run}
 use Rattle.module.proofs.HistoryLaws.{begin-refused, begin-holds}
 use Rattle.promises.specs.Histories.{SameNeeded, begun}
 use Rattle.promises.specs.Requests.{call}
-use Rattle.promises.specs.Calls.{spacesFor, SameOutcome}
-use Rattle.promises.proofs.AlikeLaws.{Alike, alike-holds, alike-turned, alike-legal, short-same}
-use Rattle.promises.proofs.PastLooks.{past-known}
+use Rattle.lending.specs.Calls.{spacesFor, SameOutcome}
+use Rattle.lending.proofs.AlikeLaws.{Alike, alike-holds, alike-turned, alike-legal, short-same}
+use Rattle.lending.proofs.PastLooks.{past-known}
 use Rattle.promises.proofs.Examples.{onMemory, start, A, store}
 
 -- what two memories hold, with other pairs in one namespace, is needed as before
 kept-needed : (i : ℕ) (ps : List Pair) (ss : List Namespace) {x y : Memory} → Holds (with i ps ss) x → Holds (with i ps ss) y → SameNeeded ss x y

@@ -20,11 +20,11 @@ use Rattle.commands.specs.Command.{Post, Lent, serve}
 use Rattle.module.specs.History.{commanding, lend, run}
 use Rattle.rules.proofs.StepLaws.{illegal}
 use Rattle.commands.proofs.CommandLaws.{serve-is, serve-refused}
 use Rattle.promises.specs.Histories.{memoryAfter, writes}
 use Rattle.promises.specs.Requests.{call, sends}
 use Rattle.promises.proofs.AnyMemory.{any-served}
-use Rattle.promises.proofs.Refusals.{refusals}
+use Rattle.lending.proofs.Refusals.{refusals}
 use Rattle.promises.proofs.Examples.{start, A, store, exist}
 
 -- a command that is neither keeps the pairs
 keeps-pairs : (s : Namespace) (c : Command) (b : List ℕ) → isStore (c .opcode) ≡ false → isDelete (c .opcode) ≡ false → answer true s c b .pairs ≡ s .pairs

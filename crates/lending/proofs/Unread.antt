@@ -14,9 +14,9 @@ use Rattle.memory.specs.Memory.{namespacesOf, legal}
 use Rattle.rules.specs.Steps.{steps, statusOf}
 use Rattle.commands.specs.Answer.{answer}
 use Rattle.commands.specs.Command.{Post, Lent, respond, serve, command}
 use Rattle.promises.proofs.Examples.{request, A}
 use Rattle.promises.proofs.Bits.{low-bit, high-bit}
-use Rattle.promises.specs.Unread.{readsAmount, Agree}
+use Rattle.lending.specs.Unread.{readsAmount, Agree}
 
 -- two commands that say the same in all that is looked at
 record Same (c d : Command) : Type 0 where

@@ -1,0 +1,1 @@
+// Definitions and theorems only: what a call goes by of all that it is lent, and what it leaves.
