@@ -8,11 +8,6 @@ pub mod Answers
 pub mod Room
 pub mod NeverStored
 pub mod Agreement
-pub mod Unique
-pub mod UniqueBelow
-pub mod Demands
-pub mod StandIns
-pub mod Members
 pub mod RequestLaws
 mod ShownLaws
 pub mod AnyMemory

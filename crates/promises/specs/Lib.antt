@@ -6,7 +6,3 @@ pub mod Calls
 pub mod Walks
 pub mod Retrieves
 pub mod Agreement
-pub mod Unique
-pub mod Devices
-pub mod Demands
-pub mod StandIns

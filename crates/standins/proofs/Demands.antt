@@ -16,19 +16,19 @@ use Rattle.commands.specs.Command.{Outcome}
 use Rattle.module.specs.History.{Call, lend, run, leaves, stored}
 use Rattle.commands.proofs.AnswerLaws.{answer-status}
 use Rattle.commands.proofs.CommandLaws.{serve-is}
 use Rattle.promises.specs.Histories.{Start, begun, memoryAfter, storedAfter, neverOn, never, touches, changes}
 use Rattle.promises.specs.Requests.{call, sends, asked}
 use Rattle.promises.specs.Retrieves.{Since}
 use Rattle.promises.specs.Walks.{pageRead, newOn, lastOf, OnwardOn, ended, paused, next, Onward, Walk}
-use Rattle.promises.specs.Devices.{real, Point, moved, goes, on, opened, reached}
-use Rattle.promises.specs.Demands.{Opens, Accepts, Retrieves, Misses, Images, Pages, Walks}
+use Rattle.standins.specs.Devices.{real, Point, moved, goes, on, opened, reached}
+use Rattle.standins.specs.Demands.{Opens, Accepts, Retrieves, Misses, Images, Pages, Walks}
 use Rattle.promises.proofs.RequestLaws.{holds-after}
 use Rattle.promises.proofs.AnyMemory.{any-served, any-status}
 use Rattle.promises.proofs.Answers.{held-answers}
 use Rattle.promises.proofs.NeverStored.{absent-87h}
 use Rattle.promises.proofs.History.{history}
 use Rattle.promises.proofs.Retrieve.{retrieve-after-store}
 use Rattle.promises.proofs.Walk.{walk-finds-all}
 
 -- ---- where its histories stand
 

@@ -12,10 +12,10 @@ use Rattle.memory.specs.Namespaces.{at as named}
 use Rattle.memory.specs.Memory.{Memory}
 use Rattle.commands.specs.Command.{Post, completionOf, outcome}
 use Rattle.module.specs.History.{Call, formatting, commanding, asking, lend, run, succeeded, status}
 use Rattle.promises.specs.Histories.{Start}
 use Rattle.promises.specs.Requests.{Request, call, asked}
-use Rattle.promises.specs.Devices.{Device, at, opens, reached}
-use Rattle.promises.specs.Demands.{shownTo}
+use Rattle.standins.specs.Devices.{Device, at, opens, reached}
+use Rattle.standins.specs.Demands.{shownTo}
 
 -- ---- kinds
 

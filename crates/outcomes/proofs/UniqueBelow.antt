@@ -18,8 +18,8 @@ use Rattle.store.proofs.finds as finds
 use Rattle.store.proofs.records as records
 use Rattle.store.proofs.reads as reads
 use Rattle.verbs.proofs.slots as slots
-use Rattle.promises.specs.Unique.{Determines}
-use Rattle.promises.proofs.Unique.{value, slice}
+use Rattle.outcomes.specs.Unique.{Determines}
+use Rattle.outcomes.proofs.Unique.{value, slice}
 
 -- ---- keys::orders, wide
 

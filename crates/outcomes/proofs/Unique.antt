@@ -38,7 +38,7 @@ use Rattle.host.proofs.builder as builder
 use Rattle.host.proofs.replies as replies
 use Rattle.host.proofs.pages as hostPages
 use Rattle.host.proofs.identities as identities
-use Rattle.promises.specs.Unique.{Determines}
+use Rattle.outcomes.specs.Unique.{Determines}
 
 -- a contract that is an equation, with all that the function yields on its left: b and c are that side for two outcomes, and what
 -- can be read out of it is the same

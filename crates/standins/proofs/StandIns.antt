@@ -17,14 +17,14 @@ use Rattle.memory.specs.Memory.{Memory, halfOf, headOf, directoryOf}
 use Rattle.rules.specs.Steps.{steps, statusOf}
 use Rattle.commands.specs.Command.{Outcome}
 use Rattle.module.specs.History.{Call, succeeded}
 use Rattle.promises.specs.Histories.{Start}
 use Rattle.promises.specs.Requests.{Request, call, asked, refusal, Proper, Gives}
 use Rattle.promises.specs.Retrieves.{SinceOn}
 use Rattle.promises.specs.Walks.{pageOn, Lists, OnwardOn, ended}
-use Rattle.promises.specs.Devices.{Device, at, moved, on, opens, opened, reached}
-use Rattle.promises.specs.Demands.{Opens, Accepts, Retrieves, Misses, Images, shownTo, Pages, Walks}
-use Rattle.promises.specs.StandIns.{Says, Leaves, Forgets, Idles, Posts, countOf, Counts, Invents, Empties}
+use Rattle.standins.specs.Devices.{Device, at, moved, on, opens, opened, reached}
+use Rattle.standins.specs.Demands.{Opens, Accepts, Retrieves, Misses, Images, shownTo, Pages, Walks}
+use Rattle.standins.specs.StandIns.{Says, Leaves, Forgets, Idles, Posts, countOf, Counts, Invents, Empties}
 use Rattle.promises.proofs.Examples.{start, start-begun, request, A, B, store, exist, list}
 
 -- ---- over any history
 

@@ -18,14 +18,14 @@ use Rattle.rules.specs.Steps.{statusOf}
 use Rattle.commands.specs.Command.{command}
 use Rattle.module.specs.History.{Call, formatting, commanding, asking, run, succeeded, status}
 use Rattle.module.proofs.HistoryLaws.{status-back}
 use Rattle.promises.specs.Requests.{Request, call, asked}
-use Rattle.promises.specs.Devices.{real, Point, at, moved, goes, opened}
-use Rattle.promises.specs.Demands.{Opens, Accepts, Retrieves, Misses, Images, Pages, Walks}
-use Rattle.promises.specs.StandIns.{Says, Leaves, Forgets, Idles, Posts, Counts, Invents, Empties, saying, staying, resting, counting}
-use Rattle.promises.proofs.Demands.{real-accepts}
-use Rattle.promises.proofs.StandIns.{says-81h-rejected, says-00h-rejected, leaves-rejected, leaves-no-image, idles-rejected, posts-rejected}
-use Rattle.promises.proofs.StandIns.{invents-rejected, counts-rejected, empties-rejected}
+use Rattle.standins.specs.Devices.{real, Point, at, moved, goes, opened}
+use Rattle.standins.specs.Demands.{Opens, Accepts, Retrieves, Misses, Images, Pages, Walks}
+use Rattle.standins.specs.StandIns.{Says, Leaves, Forgets, Idles, Posts, Counts, Invents, Empties, saying, staying, resting, counting}
+use Rattle.standins.proofs.Demands.{real-accepts}
+use Rattle.standins.proofs.StandIns.{says-81h-rejected, says-00h-rejected, leaves-rejected, leaves-no-image, idles-rejected, posts-rejected}
+use Rattle.standins.proofs.StandIns.{invents-rejected, counts-rejected, empties-rejected}
 use Rattle.promises.proofs.Examples.{onMemory, start, A, store, list}
 
 pub saying-says : (st : ℕ) → st < 256 → Says st (saying st)
 saying-says st h before m p e c b done = status-back p (readCommand e) st 0 h

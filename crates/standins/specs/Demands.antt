@@ -14,11 +14,11 @@ use Rattle.store.specs.Namespace.{Namespace}
 use Rattle.memory.specs.Namespaces.{at as named}
 use Rattle.rules.specs.Steps.{statusOf}
 use Rattle.module.specs.History.{Call, succeeded}
 use Rattle.promises.specs.Histories.{Start, begun, Shows}
 use Rattle.promises.specs.Requests.{Request, call, asked, Proper, Gives}
 use Rattle.promises.specs.Retrieves.{valueIn, SinceOn}
 use Rattle.promises.specs.Walks.{WalkOn, Finds}
-use Rattle.promises.specs.Devices.{Device, at, on, opens, reached}
+use Rattle.standins.specs.Devices.{Device, at, on, opens, reached}
 
 -- ---- that calls are carried out
 

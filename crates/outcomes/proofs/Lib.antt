@@ -1,0 +1,3 @@
+-- One outcome for each contract.
+pub mod Unique
+pub mod UniqueBelow

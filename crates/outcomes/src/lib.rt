@@ -1,0 +1,1 @@
+// Definitions and theorems only: each contract leaves one outcome.

@@ -1,0 +1,1 @@
+// Definitions and theorems only: the demands on a device, and the stand-ins that lack one.
