@@ -14,8 +14,8 @@ use Rattle.octets.proofs.PartLaws.{put-front, length-put}
 use Rattle.octets.proofs.NumberLaws.{number-bytes}
 use Rattle.wire.specs.declared.entries.Command.{Command}
 use Rattle.wire.specs.Entry.{isList}
-use Rattle.wire.specs.Page.{entrySize, pageEntry, entries, page}
-use Rattle.wire.proofs.PageLaws.{Sized, length-entry}
+use Rattle.sheets.specs.Page.{entrySize, pageEntry, entries, page}
+use Rattle.sheets.proofs.PageLaws.{Sized, length-entry}
 use Rattle.bench.specs.Span.{span, pageSpan}
 use Rattle.bench.specs.Turn.{givenOf}
 

@@ -5,7 +5,7 @@ use Prim.Native.Nat.{ℕ, zero, suc, _+_}
 use lib.Dec.{leb, ltb}
 use lib.ListN.{length, drop}
 use Rattle.octets.specs.Octets.{part, number}
-use Rattle.wire.specs.Page.{entrySize}
+use Rattle.sheets.specs.Page.{entrySize}
 
 -- n entries at the beginning of s, as far as they lie in it
 abbrev pub span : ℕ → List ℕ → ℕ

@@ -1,6 +1,6 @@
 // The length of a List page, found by its count and its entries' lengths.
 use octets::words;
-use wire::pages::page_entry_size;
+use sheets::pages::page_entry_size;
 ghost use mathlib.Core.Path.{_≡_};
 ghost use Prim.Native.Nat.{_≤_};
 ghost use lib.ListN.{length};

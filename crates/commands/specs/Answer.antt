@@ -7,7 +7,7 @@ use lib.Dec.{eqb}
 use Rattle.octets.specs.Octets.{put}
 use Rattle.wire.specs.declared.entries.Command.{Command}
 use Rattle.wire.specs.Entry.{keyOf, isStore, isRetrieve, isList, isDelete}
-use Rattle.wire.specs.Page.{page, shown}
+use Rattle.sheets.specs.Page.{page, shown}
 use Rattle.store.specs.Maps.{Pair, keys, valueOf, insert, erase}
 use Rattle.store.specs.Namespace.{Namespace}
 use Rattle.rules.specs.Steps.{statusOf}

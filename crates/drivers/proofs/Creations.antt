@@ -4,7 +4,7 @@ use mathlib.Core.List.{List, [], _∷_, _++_}
 use Prim.Native.Nat.{ℕ}
 use lib.ListN.{length, replicate}
 use Rattle.octets.specs.Octets.{part, number, zeros}
-use Rattle.wire.specs.Identify.{askedIndex, askedSize}
+use Rattle.sheets.specs.Identify.{askedIndex, askedSize}
 use Rattle.memory.specs.Memory.{Memory}
 use Rattle.formatting.specs.Formatting.{half, format}
 use Rattle.identify.specs.Identify.{asked, create}

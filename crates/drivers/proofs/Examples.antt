@@ -5,7 +5,7 @@ use Prim.Native.Nat.{ℕ}
 use native.Mathlib.Omega.{arith}
 use lib.ListN.{replicate}
 use Rattle.octets.specs.Octets.{part, number, zeros}
-use Rattle.wire.specs.Identify.{descriptor, front, identifyPage, limitsIn, limitsAt}
+use Rattle.sheets.specs.Identify.{descriptor, front, identifyPage, limitsIn, limitsAt}
 use Rattle.store.specs.Namespace.{fresh}
 use Rattle.maps.specs.Describe.{described, describe}
 use Rattle.memory.specs.Memory.{memory}

@@ -9,7 +9,7 @@ use native.Mathlib.Decide.{decLt}
 use native.Mathlib.Omega.{arith}
 use lib.ListN.{length}
 use borrow.Author.Tests.{lt-ltb, le-ltb}
-use Rattle.wire.proofs.IdentifyLaws.{Sized}
+use Rattle.sheets.proofs.IdentifyLaws.{Sized}
 use Rattle.store.specs.Maps.{used}
 use Rattle.store.specs.Namespace.{Namespace}
 use Rattle.store.proofs.NamespaceLaws.{Within as One, format-bounds}

@@ -5,8 +5,8 @@ use mathlib.Core.List.{List}
 use Prim.Native.Nat.{ℕ}
 use lib.ListN.{length}
 use lib.Dec.{ltb}
-use Rattle.wire.specs.declared.identify.Limits.{Limits}
-use Rattle.wire.specs.Identify.{identifyPage, noLimits}
+use Rattle.sheets.specs.declared.identify.Limits.{Limits}
+use Rattle.sheets.specs.Identify.{identifyPage, noLimits}
 use Rattle.store.specs.Maps.{used}
 use Rattle.store.specs.Namespace.{Namespace}
 use Rattle.memory.specs.Namespaces.{held, at}

@@ -7,7 +7,7 @@ use Rattle.octets.specs.Octets.{part, put, number, zeros, filled}
 use Rattle.keys.specs.Keys.{Key}
 use Rattle.wire.specs.Entry.{readCommand, writeCommand}
 use Rattle.wire.specs.Completion.{readCompletion, writeCompletion}
-use Rattle.wire.specs.Page.{pageEntry, page}
+use Rattle.sheets.specs.Page.{pageEntry, page}
 use Rattle.store.specs.Namespace.{within}
 use Rattle.store.specs.Records.{recordOf, recordsPart, valuesPart}
 use Rattle.memory.specs.Namespaces.{allWithin}

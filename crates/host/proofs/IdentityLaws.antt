@@ -3,9 +3,9 @@ use mathlib.Core.Path.{_≡_}
 use mathlib.Core.List.{List}
 use Prim.Native.Nat.{ℕ, _^_, _≤_, _<_}
 use lib.ListN.{length}
-use Rattle.wire.specs.declared.identify.Limits.{Limits}
-use Rattle.wire.specs.Identify.{identifyPage, noLimits, limitsAt}
-use Rattle.wire.proofs.IdentifyLaws.{Sized, length-page, size-back, used-back, formats-back, index-back, limits-at, no-limits}
+use Rattle.sheets.specs.declared.identify.Limits.{Limits}
+use Rattle.sheets.specs.Identify.{identifyPage, noLimits, limitsAt}
+use Rattle.sheets.proofs.IdentifyLaws.{Sized, length-page, size-back, used-back, formats-back, index-back, limits-at, no-limits}
 use Rattle.host.specs.Identity.{identifying, identity}
 
 -- the namespace's numbers within their bits, and no more formats than there is room for

@@ -4,8 +4,8 @@ use mathlib.Core.List.{List, [], _∷_}
 use Prim.Native.Nat.{ℕ}
 use lib.Dec.{eqb}
 use Rattle.octets.specs.Tests.{firstOf}
-use Rattle.wire.specs.declared.identify.Limits.{Limits}
-use Rattle.wire.specs.Identify.{notPage, sizeIn, usedIn, formatsIn, indexIn, limitsAt}
+use Rattle.sheets.specs.declared.identify.Limits.{Limits}
+use Rattle.sheets.specs.Identify.{notPage, sizeIn, usedIn, formatsIn, indexIn, limitsAt}
 use Rattle.host.specs.declared.identities.Identity.{Identity}
 
 -- number 14 comes with zeros

@@ -4,7 +4,7 @@ use Prim.Native.Nat.{ℕ}
 use lib.ListN.{length, getD}
 use Rattle.octets.specs.Octets.{zeros, filled}
 use Rattle.keys.specs.Keys.{Key}
-use Rattle.wire.specs.Page.{Reading, refused, keys}
+use Rattle.sheets.specs.Page.{Reading, refused, keys}
 use Rattle.host.specs.declared.pages.PageKey.{PageKey}
 
 -- numbers 7 to 11 come with count 0, length 0 and zero key bytes

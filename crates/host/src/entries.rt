@@ -3,11 +3,11 @@ use keys::orders;
 use keys::orders::Order;
 use octets::runs;
 use octets::words;
-use wire::pages::PageEntry;
-use wire::pages::page_entry_size;
+use sheets::pages::PageEntry;
+use sheets::pages::page_entry_size;
 ghost use mathlib.Core.Path.{_≡_};
 ghost use Rattle.keys.specs.Keys.{isLess};
-ghost use Rattle.wire.specs.Page.{firstEntry};
+ghost use Rattle.sheets.specs.Page.{firstEntry};
 
 fn refused(number: u32) -> PageEntry
     ensures { λ r. ⌜ r ≡ record { number = number; len = 0 } ⌝ }

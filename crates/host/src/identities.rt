@@ -1,11 +1,11 @@
 // The reader of Identify pages, of this module and of others.
 use octets::words;
-use wire::identify::Limits;
-use wire::identify::index_in;
+use sheets::identify::Limits;
+use sheets::identify::index_in;
 ghost use mathlib.Core.Path.{_≡_};
 ghost use Prim.Native.Nat.{_+_};
 ghost use lib.ListN.{length};
-ghost use Rattle.wire.specs.Identify.{formatsIn, limitsAt};
+ghost use Rattle.sheets.specs.Identify.{formatsIn, limitsAt};
 ghost use Rattle.host.specs.Identity.{unidentified, identity};
 
 // A house number, what the page says of its namespace, and the limits of one format.

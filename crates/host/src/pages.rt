@@ -2,11 +2,11 @@
 use crate::entries::read_page_entry;
 use keys::orders::pad;
 use octets::words;
-use wire::pages::page_entry_size;
+use sheets::pages::page_entry_size;
 ghost use mathlib.Core.Path.{_≡_};
 ghost use Prim.Native.Nat.{_≤_};
 ghost use lib.ListN.{length};
-ghost use Rattle.wire.specs.Page.{readPage};
+ghost use Rattle.sheets.specs.Page.{readPage};
 ghost use Rattle.host.specs.PageKey.{refusal, given, pageKey};
 
 // A house number, the count of a page's keys, and one of them.

@@ -4,8 +4,8 @@ use mathlib.Core.List.{List, [], _∷_}
 use Prim.Native.Nat.{ℕ}
 use lib.Dec.{eqb}
 use Rattle.octets.specs.Tests.{firstOf}
-use Rattle.wire.specs.declared.identify.Limits.{Limits}
-use Rattle.wire.specs.Identify.{identifyPage, notPage, notFields, askedIndex, askedSize}
+use Rattle.sheets.specs.declared.identify.Limits.{Limits}
+use Rattle.sheets.specs.Identify.{identifyPage, notPage, notFields, askedIndex, askedSize}
 use Rattle.table.specs.declared.formats.Format.{Format}
 use Rattle.table.specs.Formats.{formatOf}
 use Rattle.memory.specs.Memory.{Memory}

@@ -2,7 +2,7 @@
 use formatting::formats::format;
 use formatting::measures::Half;
 use octets::words::read64;
-use wire::identify::index_in;
+use sheets::identify::index_in;
 ghost use mathlib.Core.Path.{_≡_};
 ghost use Rattle.memory.specs.Memory.{memory};
 ghost use Rattle.formatting.specs.Formatting.{formatted};

@@ -11,7 +11,7 @@ ghost use mathlib.Core.Path.{_≡_};
 ghost use Prim.Native.Nat.{_+_, _≤_};
 ghost use lib.ListN.{length};
 ghost use Rattle.octets.specs.Octets.{put};
-ghost use Rattle.wire.specs.Identify.{descriptor, descriptors, front};
+ghost use Rattle.sheets.specs.Identify.{descriptor, descriptors, front};
 ghost use Rattle.memory.specs.Memory.{memory};
 ghost use Rattle.identify.specs.Identify.{limitsOf, limits, pageOf, identified, identify};
 

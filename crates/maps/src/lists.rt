@@ -1,12 +1,12 @@
 // The List page, written entry by entry.
 use octets::words;
+use sheets::pages;
 use store::records::key_length_at;
-use wire::pages;
 ghost use mathlib.Core.Path.{_≡_};
 ghost use Prim.Native.Nat.{_+_, _-_, _*_, _≤_};
 ghost use lib.ListN.{length, drop};
 ghost use Rattle.octets.specs.Octets.{put};
-ghost use Rattle.wire.specs.Page.{page, fits};
+ghost use Rattle.sheets.specs.Page.{page, fits};
 ghost use Rattle.store.specs.Records.{keyLength};
 ghost use Rattle.store.specs.Finds.{keysIn, KeyFits};
 ghost use Rattle.maps.specs.Asks.{Listing};

@@ -10,7 +10,7 @@ ghost use Prim.Native.Nat.{_+_};
 ghost use lib.ListN.{length, take};
 ghost use Rattle.octets.specs.Octets.{put};
 ghost use Rattle.keys.specs.Keys.{Padded};
-ghost use Rattle.wire.specs.Page.{page, shown};
+ghost use Rattle.sheets.specs.Page.{page, shown};
 ghost use Rattle.store.specs.Maps.{valueOf};
 ghost use Rattle.store.specs.Finds.{found, foundKey};
 ghost use Rattle.memory.specs.Memory.{memory, pairsAt};

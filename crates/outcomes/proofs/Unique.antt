@@ -1,5 +1,5 @@
 -- At most one outcome satisfies a contract: the law, then the public functions, those that are exported to C first; those of `octets`,
--- `keys`, `wire`, `table`, `store` and `verbs` are in `UniqueBelow.antt`. Assumes nothing.
+-- `keys`, `wire`, `sheets`, `table`, `store` and `verbs` are in `UniqueBelow.antt`. Assumes nothing.
 use mathlib.Core.Path.{_≡_, sym, ap, _∙_}
 use mathlib.Core.List.{List}
 use Prim.Native.Nat.{ℕ, _≤_}

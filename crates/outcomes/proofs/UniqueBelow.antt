@@ -1,4 +1,4 @@
--- At most one outcome satisfies a contract: the public functions of `octets`, `keys`, `wire`, `table`, `store` and `verbs`. Assumes nothing.
+-- At most one outcome satisfies a contract: the public functions of `octets`, `keys`, `wire`, `sheets`, `table`, `store` and `verbs`. Assumes nothing.
 use mathlib.Core.Path.{_≡_, refl, sym, ap, _∙_}
 use mathlib.Core.List.{List}
 use Prim.Native.Nat.{ℕ}
@@ -8,8 +8,8 @@ use Rattle.octets.proofs.runs as runs
 use Rattle.octets.proofs.words as words
 use Rattle.wire.proofs.completions as completions
 use Rattle.wire.proofs.entries as entries
-use Rattle.wire.proofs.identify as identify
-use Rattle.wire.proofs.pages as pages
+use Rattle.sheets.proofs.identify as identify
+use Rattle.sheets.proofs.pages as pages
 use Rattle.store.specs.Maps.{Pair}
 use Rattle.store.specs.Parts.{Holds}
 use Rattle.table.proofs.formats as formats
@@ -106,12 +106,12 @@ read-entry-one κs a x y u v p q = value p q
 pub write-entry-one : Determines entries.write_entry.Kinds.ps entries.write_entry.Kinds.r entries.write_entry.Reads.Learnt
 write-entry-one κs a x y u v p q = slice p q (λ s. (s, (tt, tt)))
 
--- ---- wire::identify
+-- ---- sheets::identify
 
 pub index-in-one : Determines identify.index_in.Kinds.ps identify.index_in.Kinds.r identify.index_in.Reads.Learnt
 index-in-one κs a x y u v p q = value p q
 
--- ---- wire::pages
+-- ---- sheets::pages
 
 pub page-entry-size-one : Determines pages.page_entry_size.Kinds.ps pages.page_entry_size.Kinds.r pages.page_entry_size.Reads.Learnt
 page-entry-size-one κs a x y u v p q = value p q

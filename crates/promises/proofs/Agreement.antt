@@ -13,7 +13,7 @@ use Rattle.octets.proofs.TestLaws.{known, holds, fails}
 use Rattle.octets.proofs.ZeroLaws.{length-filled}
 use Rattle.wire.specs.declared.entries.Command.{Command}
 use Rattle.wire.specs.Entry.{readCommand, keyOf, stale, isStore, isRetrieve, isList}
-use Rattle.wire.specs.Page.{page, Reading, readPage, shown, keys as reading}
+use Rattle.sheets.specs.Page.{page, Reading, readPage, shown, keys as reading}
 use Rattle.wire.proofs.EntryLaws.{length-command}
 use Rattle.store.specs.Maps.{keys}
 use Rattle.store.specs.Namespace.{Namespace, within}

@@ -1,4 +1,4 @@
--- The theorems: over histories, of host and module together, of each contract, and of the stand-ins; the other files serve them.
+-- The theorems: over histories, and of host and module together; the other files serve them.
 pub mod History
 pub mod Images
 pub mod Walk

@@ -12,8 +12,8 @@ use Rattle.octets.specs.Octets.{put}
 use Rattle.keys.specs.Keys.{Key, from}
 use Rattle.octets.proofs.TestLaws.{known, holds, fails}
 use Rattle.keys.proofs.OrderLaws.{Below, Rising, order-self, below-trans, below-greater}
-use Rattle.wire.specs.Page.{entrySize, page, fits, keys, readPage, shown}
-use Rattle.wire.proofs.PageLaws.{Sized, page-back, fits-next}
+use Rattle.sheets.specs.Page.{entrySize, page, fits, keys, readPage, shown}
+use Rattle.sheets.proofs.PageLaws.{Sized, page-back, fits-next}
 use Rattle.store.specs.Finds.{rank}
 use Rattle.store.proofs.RankLaws.{from-rank, length-keys}
 

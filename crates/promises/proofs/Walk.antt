@@ -15,8 +15,8 @@ use Rattle.keys.proofs.OrderLaws.{true-rising}
 use Rattle.octets.proofs.ZeroLaws.{same-self}
 use Rattle.wire.specs.declared.entries.Command.{Command}
 use Rattle.wire.specs.Entry.{readCommand, isStore, isDelete}
-use Rattle.wire.specs.Page.{entrySize, page, fits, Reading, keys, readPage, shown}
-use Rattle.wire.proofs.PageLaws.{fits-next}
+use Rattle.sheets.specs.Page.{entrySize, page, fits, Reading, keys, readPage, shown}
+use Rattle.sheets.proofs.PageLaws.{fits-next}
 use Rattle.store.specs.Maps.{Pair, keys as keysOf}
 use Rattle.store.specs.Namespace.{Namespace}
 use Rattle.store.proofs.NamespaceLaws.{Within}

@@ -8,7 +8,7 @@ use lib.ListN.{length, replicate}
 use Rattle.octets.specs.Octets.{part, put, number, zeros, filled}
 use Rattle.keys.specs.Keys.{Key}
 use Rattle.wire.specs.Entry.{readCommand, writeCommand}
-use Rattle.wire.specs.Page.{pageEntry, page}
+use Rattle.sheets.specs.Page.{pageEntry, page}
 use Rattle.store.specs.Namespace.{Namespace, fresh}
 use Rattle.memory.specs.Namespaces.{at, with}
 use Rattle.rules.specs.Steps.{steps, statusOf}

@@ -7,7 +7,7 @@ use Prim.Native.Nat.{ℕ, _+_, _≤_}
 use lib.ListN.{length}
 use Rattle.octets.specs.Octets.{same}
 use Rattle.keys.specs.Keys.{Key}
-use Rattle.wire.specs.Page.{Reading, refused, keys, behind, readPage}
+use Rattle.sheets.specs.Page.{Reading, refused, keys, behind, readPage}
 use Rattle.store.specs.Namespace.{Namespace}
 use Rattle.memory.specs.Memory.{Memory}
 use Rattle.module.specs.History.{Call}

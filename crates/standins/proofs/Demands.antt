@@ -6,7 +6,7 @@ use Prim.Native.Nat.{ℕ}
 use lib.ListN.{length}
 use borrow.Author.Tests.{eqb-true}
 use Rattle.octets.proofs.TestLaws.{both}
-use Rattle.wire.specs.Page.{Reading}
+use Rattle.sheets.specs.Page.{Reading}
 use Rattle.store.specs.Namespace.{Namespace}
 use Rattle.memory.specs.Namespaces.{at as named}
 use Rattle.memory.proofs.ImageLaws.{Holds, holds-back, holds-legal}

@@ -11,8 +11,8 @@ use Rattle.octets.specs.Octets.{part, put, number}
 use Rattle.octets.proofs.NumberLaws.{number-bytes}
 use Rattle.octets.proofs.TestLaws.{contrary}
 use Rattle.wire.specs.Entry.{readCommand}
-use Rattle.wire.specs.Page.{page}
-use Rattle.wire.proofs.PageLaws.{page-back}
+use Rattle.sheets.specs.Page.{page}
+use Rattle.sheets.proofs.PageLaws.{page-back}
 use Rattle.memory.specs.Namespaces.{at as named}
 use Rattle.rules.specs.Steps.{statusOf}
 use Rattle.commands.specs.Command.{command}

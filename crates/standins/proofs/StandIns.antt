@@ -9,7 +9,7 @@ use borrow.Author.Tests.{eqb-true}
 use Rattle.octets.specs.Octets.{part, put, number}
 use Rattle.octets.proofs.TestLaws.{both}
 use Rattle.wire.specs.Entry.{readCommand, writeCommand, isList}
-use Rattle.wire.specs.Page.{pageEntry, page, keys}
+use Rattle.sheets.specs.Page.{pageEntry, page, keys}
 use Rattle.store.specs.Maps.{pair, lookup, keys as keysOf}
 use Rattle.store.specs.Namespace.{Namespace, fresh, withPairs}
 use Rattle.memory.specs.Namespaces.{at as named}

@@ -8,7 +8,7 @@ use lib.ListN.{length, take}
 use Rattle.octets.specs.Octets.{put}
 use Rattle.keys.specs.Keys.{Key}
 use Rattle.wire.specs.Entry.{keyOf, isRetrieve, isList, isDelete, isExist}
-use Rattle.wire.specs.Page.{page, shown, Reading}
+use Rattle.sheets.specs.Page.{page, shown, Reading}
 use Rattle.store.specs.Maps.{lookup, keys as keysOf}
 use Rattle.store.specs.Namespace.{Namespace}
 use Rattle.memory.specs.Namespaces.{at as named}

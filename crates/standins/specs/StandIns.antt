@@ -7,7 +7,7 @@ use Prim.Native.Nat.{ℕ}
 use lib.Dec.{eqb}
 use Rattle.octets.specs.Octets.{part, put, number, bytes}
 use Rattle.wire.specs.Entry.{readCommand, isList}
-use Rattle.wire.specs.Page.{page, keys, readPage}
+use Rattle.sheets.specs.Page.{page, keys, readPage}
 use Rattle.memory.specs.Namespaces.{at as named}
 use Rattle.memory.specs.Memory.{Memory}
 use Rattle.commands.specs.Command.{Post, completionOf, outcome}

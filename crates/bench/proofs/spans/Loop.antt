@@ -9,7 +9,7 @@ use lib.Seq.{drop-drop}
 use borrow.Author.Tests.{le-ltb, lt-ltb, le-leb, lt-leb}
 use Rattle.octets.specs.Octets.{part, number}
 use Rattle.octets.proofs.PartLaws.{part-drop}
-use Rattle.wire.specs.Page.{entrySize}
+use Rattle.sheets.specs.Page.{entrySize}
 use Rattle.bench.specs.Span.{span, pageSpan}
 
 -- i entries are passed, and the next is at `at`

@@ -8,7 +8,7 @@ use lib.ListN.{length, take}
 use Rattle.octets.specs.Octets.{put}
 use Rattle.wire.specs.declared.entries.Command.{Command}
 use Rattle.wire.specs.Entry.{keyOf}
-use Rattle.wire.specs.Page.{page, shown}
+use Rattle.sheets.specs.Page.{page, shown}
 use Rattle.store.specs.declared.finds.Found.{Found}
 use Rattle.store.specs.Maps.{Pair, valueOf, insert, erase}
 use Rattle.store.specs.Namespace.{Namespace}

@@ -10,7 +10,7 @@ use borrow.Author.Tests.{ltb-false}
 use Rattle.octets.specs.Octets.{part, number}
 use Rattle.octets.proofs.PartLaws.{part-inside}
 use Rattle.octets.proofs.TestLaws.{neither}
-use Rattle.wire.specs.Identify.{formatsIn, limitsIn, noLimits, limitsAt}
+use Rattle.sheets.specs.Identify.{formatsIn, limitsIn, noLimits, limitsAt}
 
 module _ {n : ℕ} (p : List ℕ) (o : ℕ) (e : n ≡ formatsIn p) where
   pub limits-none : (leb n o || ltb (length p) (88 + 16 * o)) ≡ true → noLimits ≡ limitsAt p o

@@ -13,9 +13,9 @@ use borrow.Author.Tests.{le-ltb, lt-ltb, eq-eqb, ne-eqb}
 use Rattle.octets.specs.Octets.{part, number}
 use Rattle.keys.specs.Keys.{Key}
 use Rattle.octets.proofs.PartLaws.{part-drop, part-rest}
-use Rattle.wire.specs.declared.pages.PageEntry.{PageEntry}
-use Rattle.wire.specs.Page.{entrySize, firstEntry, Reading, refused, keys, behind, readEntries, readPage}
-use Rattle.wire.proofs.PageLaws.{First, first-fits}
+use Rattle.sheets.specs.declared.pages.PageEntry.{PageEntry}
+use Rattle.sheets.specs.Page.{entrySize, firstEntry, Reading, refused, keys, behind, readEntries, readPage}
+use Rattle.sheets.proofs.PageLaws.{First, first-fits}
 use Rattle.host.specs.PageKey.{refusal, given, pageKey}
 
 behind-none : (r : Reading) → behind [] r ≡ r

@@ -7,9 +7,9 @@ use native.Mathlib.Omega.{arith}
 use lib.ListN.{length}
 use Rattle.octets.specs.Octets.{put, bytes, zeros}
 use Rattle.octets.proofs.PartLaws.{put-then, puts-whole}
-use Rattle.wire.specs.declared.identify.Limits.{Limits}
-use Rattle.wire.specs.Identify.{descriptor, descriptors, front, identifyPage}
-use Rattle.wire.proofs.IdentifyLaws.{length-descriptors}
+use Rattle.sheets.specs.declared.identify.Limits.{Limits}
+use Rattle.sheets.specs.Identify.{descriptor, descriptors, front, identifyPage}
+use Rattle.sheets.proofs.IdentifyLaws.{length-descriptors}
 use Rattle.table.specs.declared.formats.Format.{Format}
 use Rattle.table.specs.Formats.{formatOf}
 use Rattle.identify.specs.Identify.{limitsOf, limits}

@@ -11,8 +11,8 @@ use borrow.Rule.Slice.PartMut.{putMid}
 use Rattle.keys.specs.Keys.{Key}
 use Rattle.octets.specs.Octets.{part, put, bytes, allZero}
 use Rattle.octets.proofs.PartLaws.{length-put, lent-put}
-use Rattle.wire.specs.Page.{entrySize, pageEntry, page, fits}
-use Rattle.wire.proofs.PageLaws.{length-entry, fits-stop, written, written-all, written-done, written-next}
+use Rattle.sheets.specs.Page.{entrySize, pageEntry, page, fits}
+use Rattle.sheets.proofs.PageLaws.{length-entry, fits-stop, written, written-all, written-done, written-next}
 use Rattle.store.specs.Records.{keyLength}
 use Rattle.store.specs.Finds.{keysIn, KeyFits}
 use Rattle.store.proofs.RankLaws.{length-keys-in, key-at}

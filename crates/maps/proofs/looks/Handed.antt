@@ -6,7 +6,7 @@ use native.Mathlib.Omega.{arith}
 use lib.ListN.{length, take, drop}
 use Rattle.octets.specs.Octets.{put}
 use Rattle.keys.specs.Keys.{Key, from}
-use Rattle.wire.specs.Page.{page, fits, shown}
+use Rattle.sheets.specs.Page.{page, fits, shown}
 use Rattle.store.specs.declared.finds.Found.{Found}
 use Rattle.store.specs.Maps.{Pair, keys, valueOf}
 use Rattle.store.specs.Records.{valueLength, valueIn}

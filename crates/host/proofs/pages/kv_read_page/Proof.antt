@@ -4,7 +4,7 @@ use native.Mathlib.Omega.{arith}
 use lib.ListN.{length, length-take, length-drop}
 use borrow.Author.Needs.{needs}
 use Rattle.octets.specs.Octets.{part}
-use Rattle.wire.proofs.PageLaws.{First}
+use Rattle.sheets.proofs.PageLaws.{First}
 use Rattle.host.proofs.pages.Loop.{Passed, page-short, passed-none, passed-all}
 use Rattle.host.proofs.pages.Loop.{passed-refused, passed-first, passed-asked, passed-other}
 use Rattle.host.proofs.pages.kv_read_page.Statement.{statement}

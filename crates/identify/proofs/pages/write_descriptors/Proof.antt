@@ -4,7 +4,7 @@ use native.Mathlib.Omega.{arith}
 use lib.ListN.{length}
 use Rattle.octets.specs.Octets.{put}
 use Rattle.octets.proofs.PartLaws.{put-none}
-use Rattle.wire.specs.Identify.{descriptors}
+use Rattle.sheets.specs.Identify.{descriptors}
 use Rattle.identify.specs.Identify.{limits}
 use Rattle.identify.proofs.pages.Writes.{descriptors-more}
 use Rattle.identify.proofs.pages.write_descriptors.Statement.{statement}

@@ -1,7 +1,7 @@
 use borrow.Author.Needs.{needs}
-use Rattle.wire.proofs.PageLaws.{entry-first}
-use Rattle.wire.proofs.pages.write_first.Statement.{statement}
-use Rattle.wire.proofs.pages.write_first.Tie as tie
+use Rattle.sheets.proofs.PageLaws.{entry-first}
+use Rattle.sheets.proofs.pages.write_first.Statement.{statement}
+use Rattle.sheets.proofs.pages.write_first.Tie as tie
 
 returns : tie.Need-returns
 returns c =

@@ -7,7 +7,7 @@ use lib.ListN.{length, drop}
 use Rattle.octets.specs.Octets.{part, number, bytes, zeros, allZero}
 use Rattle.keys.specs.Keys.{Key, below, from}
 use Rattle.octets.specs.Tests.{Row, row, firstOf}
-use Rattle.wire.specs.declared.pages.PageEntry.{PageEntry}
+use Rattle.sheets.specs.declared.pages.PageEntry.{PageEntry}
 
 -- the length of an entry whose key has n bytes: 2 + n, rounded up to a multiple of 4; and the zeros behind the key
 abbrev pub entrySize : ℕ → ℕ

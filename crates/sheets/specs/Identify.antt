@@ -7,7 +7,7 @@ use lib.Dec.{leb, ltb, eqb}
 use lib.ListN.{length, getD}
 use Rattle.octets.specs.Octets.{part, number, bytes, zeros, filled}
 use Rattle.octets.specs.Tests.{Row, row}
-use Rattle.wire.specs.declared.identify.Limits.{Limits}
+use Rattle.sheets.specs.declared.identify.Limits.{Limits}
 
 -- ---- the page
 

@@ -5,7 +5,7 @@ ghost use mathlib.Core.Bool.{true};
 ghost use Prim.Native.Nat.{_+_, _%_, _≤_};
 ghost use lib.ListN.{length, take, drop};
 ghost use Rattle.octets.specs.Octets.{part, put, allZero};
-ghost use Rattle.wire.specs.Page.{entrySize, pageEntry};
+ghost use Rattle.sheets.specs.Page.{entrySize, pageEntry};
 
 // Two bytes of length and the key, rounded up to whole words.
 pub fn page_entry_size(n: usize) -> usize

@@ -1,7 +1,7 @@
 use borrow.Author.Needs.{needs}
-use Rattle.wire.proofs.PageLaws.{entry-words}
-use Rattle.wire.proofs.pages.write_page_entry.Statement.{statement}
-use Rattle.wire.proofs.pages.write_page_entry.Tie as tie
+use Rattle.sheets.proofs.PageLaws.{entry-words}
+use Rattle.sheets.proofs.pages.write_page_entry.Statement.{statement}
+use Rattle.sheets.proofs.pages.write_page_entry.Tie as tie
 
 returns : tie.Need-returns
 returns c =

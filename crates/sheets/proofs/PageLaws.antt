@@ -17,8 +17,8 @@ use Rattle.octets.proofs.NumberLaws.{Bytes, number-bytes, bytes-in}
 use Rattle.octets.proofs.ZeroLaws.{zeros-all, part-filled}
 use Rattle.keys.proofs.OrderLaws.{Below, BelowFirst, Rising}
 use Rattle.octets.proofs.TestLaws.{neither, none-holds, known, holds, fails}
-use Rattle.wire.specs.Page.{entrySize, padding, pageEntry, entries, page, firstEntry, keys, readEntries, readPage, entrySteps, fits}
-use Rattle.wire.specs.declared.pages.PageEntry.{PageEntry}
+use Rattle.sheets.specs.Page.{entrySize, padding, pageEntry, entries, page, firstEntry, keys, readEntries, readPage, entrySteps, fits}
+use Rattle.sheets.specs.declared.pages.PageEntry.{PageEntry}
 
 pub length-entry : (k : Key) → length (pageEntry k) ≡ entrySize (length k)
 unfolding pageEntry

@@ -1,8 +1,8 @@
 use native.Mathlib.Omega.{arith}
 use borrow.Author.Needs.{needs}
-use Rattle.wire.proofs.PageLaws.{entry-last, entry-none}
-use Rattle.wire.proofs.pages.write_last.Statement.{statement}
-use Rattle.wire.proofs.pages.write_last.Tie as tie
+use Rattle.sheets.proofs.PageLaws.{entry-last, entry-none}
+use Rattle.sheets.proofs.pages.write_last.Statement.{statement}
+use Rattle.sheets.proofs.pages.write_last.Tie as tie
 
 returns : tie.Need-returns
 returns c =

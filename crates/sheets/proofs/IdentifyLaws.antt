@@ -10,8 +10,8 @@ use Rattle.octets.specs.Octets.{part, number, bytes}
 use Rattle.octets.proofs.PartLaws.{part-seam}
 use Rattle.octets.proofs.NumberLaws.{number-bytes}
 use Rattle.octets.proofs.ZeroLaws.{length-filled}
-use Rattle.wire.specs.declared.identify.Limits.{Limits}
-use Rattle.wire.specs.Identify.{descriptor, descriptors, front, identifyPage, sizeIn, usedIn, formatsIn, indexIn, limitsIn, noLimits, limitsAt}
+use Rattle.sheets.specs.declared.identify.Limits.{Limits}
+use Rattle.sheets.specs.Identify.{descriptor, descriptors, front, identifyPage, sizeIn, usedIn, formatsIn, indexIn, limitsIn, noLimits, limitsAt}
 
 -- each number within its bytes
 pub record Sized (l : Limits) : Type 0 where
