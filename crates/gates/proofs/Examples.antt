@@ -15,7 +15,7 @@ use Rattle.module.specs.History.{Call}
 use Rattle.promises.specs.Histories.{begun, memoryAfter}
 use Rattle.promises.specs.Requests.{call}
 use Rattle.promises.proofs.Examples.{onMemory, start, startTwo, two-begun, A, B, store, storeTwo}
-use Rattle.gates.specs.Looks.{SaysHistory, always, elsewhere, late}
+use Rattle.gates.specs.Looks.{SaysHistory, GoesBy, always, elsewhere, late, checking}
 use Rattle.gates.proofs.Looks.{says-legal, says-history, goes-by, unheld}
 
 -- to unfold it is to unfold all that a look computes with
@@ -156,3 +156,8 @@ elsewhere-rejected f = omega (arith, f (startTwo 7) calls B 2 (two-begun 7) refl
 late-rejected : SaysHistory late → ⊥
 unfolding onMemory onLook
 late-rejected f = omega (arith, f (startTwo 7) calls A 1 (two-begun 7) refl refl .looked 1 (omega arith))
+
+-- the damaged memory is not legal, and yet two slots are to be looked at
+checking-rejected : GoesBy checking → ⊥
+unfolding onMemory onLook
+checking-rejected f = omega (arith, f .counts A 1 damaged)

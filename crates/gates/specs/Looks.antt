@@ -9,7 +9,7 @@ use Rattle.store.specs.Maps.{Pair, present}
 use Rattle.memory.specs.Namespaces.{held}
 use Rattle.memory.specs.Memory.{Memory, namespacesOf, pairsAt, legal}
 use Rattle.quick.specs.declared.looks.Look.{Look}
-use Rattle.quick.specs.Known.{noKey, runFor, searchFor, known}
+use Rattle.quick.specs.Known.{noKey, runFor, searchFor, noLook, known}
 use Rattle.quick.specs.Seen.{SameSeen}
 use Rattle.module.specs.History.{Call}
 use Rattle.promises.specs.Histories.{Start, begun, memoryAfter, storedAfter, storedIn}
@@ -56,3 +56,7 @@ elsewhere j k n m = known k j m
 -- it looks once more to see whether the slot that it came to has the key
 abbrev pub late : Looker
 late k n m = let l = known k n m in record { number = l .number; known = l .known; looked = suc (l .looked) }
+
+-- it makes the pass that a command makes, and refuses memory that is not legal
+abbrev pub checking : Looker
+checking k n m = cond (legal m) (known k n m) (noLook 18)
