@@ -1,7 +1,7 @@
 // The reader of List pages.
-use crate::entries::read_page_entry;
 use keys::orders::pad;
 use octets::words;
+use sheets::entries::read_page_entry;
 use sheets::pages::page_entry_size;
 ghost use mathlib.Core.Path.{_≡_};
 ghost use Prim.Native.Nat.{_≤_};

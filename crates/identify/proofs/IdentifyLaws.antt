@@ -35,7 +35,8 @@ module _ (s : List ℕ) (id : ℕ) (m : Memory) where
   unfolding create
   create-14 h = rw (ne-eqb (length s) 512 h)
 
-  pub created : {i n : ℕ} {r : Formatted} → length s ≡ 512 → i ≡ getD s 31 0 % 16 → n ≡ number (part 0 8 s) → r ≡ format (half i id n ∷ []) m → r ≡ create s id m
+  pub created : {i n : ℕ} {r : Formatted} → length s ≡ 512 → i ≡ getD s 31 0 % 16 → n ≡ number (part 0 8 s) → r ≡ format (half i id n ∷ []) m
+      → r ≡ create s id m
   unfolding create
   created l e f g = rw (g, e, f, eq-eqb (length s) 512 l)
 

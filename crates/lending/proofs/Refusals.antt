@@ -17,7 +17,8 @@ use Rattle.maps.specs.Describe.{describe}
 use Rattle.formatting.specs.Formatting.{half}
 use Rattle.identify.specs.Identify.{identify}
 use Rattle.commands.specs.Command.{Post, Lent, Outcome}
-use Rattle.module.specs.History.{one, begin, Question, polling, identifying, knowing, ask, numberIn, pageIn, Call, formatting, commanding, asking, lend, run, status}
+use Rattle.module.specs.History.{Question, polling, identifying, knowing, ask, numberIn, pageIn}
+use Rattle.module.specs.History.{one, begin, Call, formatting, commanding, asking, lend, run, status}
 use Rattle.commands.proofs.CommandLaws.{command-0, command-1, command-2, serve-refused}
 use Rattle.module.proofs.HistoryLaws.{begin-refused}
 use Rattle.host.specs.Build as Build

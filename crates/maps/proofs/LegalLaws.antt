@@ -17,7 +17,7 @@ use Rattle.store.specs.Slots.{Standing}
 use Rattle.store.proofs.NamespaceLaws.{Within as One}
 use Rattle.store.proofs.PartsLaws.{pairs-held, held-again}
 use Rattle.store.proofs.RankLaws.{keys-in}
-use Rattle.store.proofs.LegalLaws.{Legal as Part, keys-fit}
+use Rattle.legal.proofs.LegalLaws.{Legal as Part, keys-fit}
 use Rattle.memory.specs.declared.checks.Checked.{Checked}
 use Rattle.memory.specs.Namespaces.{total, slotsOf, sizeOf, held, at}
 use Rattle.memory.specs.Memory.{Memory, memory, labelOf, recordsIn, valuesIn, namespacesOf, pairsAt, legal}

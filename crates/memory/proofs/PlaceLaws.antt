@@ -10,7 +10,7 @@ use Rattle.octets.proofs.PartLaws.{part-two, part-front}
 use Rattle.store.specs.Namespace.{Namespace}
 use Rattle.store.proofs.NamespaceLaws.{Within as One}
 use Rattle.store.proofs.PartsLaws.{held}
-use Rattle.store.proofs.LegalLaws.{Legal}
+use Rattle.legal.proofs.LegalLaws.{Legal}
 use Rattle.memory.specs.Namespaces.{joined, total, slotsOf, sizeOf}
 use Rattle.memory.specs.Memory.{Memory, memory, needed, neededValues, labelOf, halfFor, recordsFor, valuesFor, headOf, directoryOf, valuesOf}
 use Rattle.memory.specs.Memory.{labelAt, recordsIn, valuesIn}

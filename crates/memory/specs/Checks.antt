@@ -12,7 +12,7 @@ use Rattle.table.specs.Formats.{formatOf}
 use Rattle.store.specs.Maps.{values, used}
 use Rattle.store.specs.Namespace.{Namespace, permitSteps}
 use Rattle.store.specs.Records.{pairsIn}
-use Rattle.store.specs.Checks.{partLegal}
+use Rattle.legal.specs.Checks.{partLegal}
 use Rattle.memory.specs.declared.permits.Permission.{Permission}
 use Rattle.memory.specs.declared.checks.Checked.{Checked}
 use Rattle.memory.specs.Namespaces.{total, slotsOf, sizeOf}

@@ -1,4 +1,5 @@
--- At most one outcome satisfies a contract: the public functions of `octets`, `keys`, `wire`, `sheets`, `table`, `store` and `verbs`. Assumes nothing.
+-- At most one outcome satisfies a contract: the public functions of `octets`, `keys`, `wire`, `sheets`, `table`, `store`, `legal`
+-- and `verbs`. Assumes nothing.
 use mathlib.Core.Path.{_≡_, refl, sym, ap, _∙_}
 use mathlib.Core.List.{List}
 use Prim.Native.Nat.{ℕ}
@@ -8,12 +9,13 @@ use Rattle.octets.proofs.runs as runs
 use Rattle.octets.proofs.words as words
 use Rattle.wire.proofs.completions as completions
 use Rattle.wire.proofs.entries as entries
+use Rattle.sheets.proofs.entries as readings
 use Rattle.sheets.proofs.identify as identify
 use Rattle.sheets.proofs.pages as pages
 use Rattle.store.specs.Maps.{Pair}
 use Rattle.store.specs.Parts.{Holds}
 use Rattle.table.proofs.formats as formats
-use Rattle.store.proofs.checks as checks
+use Rattle.legal.proofs.checks as checks
 use Rattle.store.proofs.finds as finds
 use Rattle.store.proofs.records as records
 use Rattle.store.proofs.reads as reads
@@ -106,6 +108,11 @@ read-entry-one κs a x y u v p q = value p q
 pub write-entry-one : Determines entries.write_entry.Kinds.ps entries.write_entry.Kinds.r entries.write_entry.Reads.Learnt
 write-entry-one κs a x y u v p q = slice p q (λ s. (s, (tt, tt)))
 
+-- ---- sheets::entries
+
+pub read-page-entry-one : Determines readings.read_page_entry.Kinds.ps readings.read_page_entry.Kinds.r readings.read_page_entry.Reads.Learnt
+read-page-entry-one κs a x y u v p q = value p q
+
 -- ---- sheets::identify
 
 pub index-in-one : Determines identify.index_in.Kinds.ps identify.index_in.Kinds.r identify.index_in.Reads.Learnt
@@ -119,7 +126,7 @@ page-entry-size-one κs a x y u v p q = value p q
 pub write-page-entry-one : Determines pages.write_page_entry.Kinds.ps pages.write_page_entry.Kinds.r pages.write_page_entry.Reads.Learnt
 write-page-entry-one κs a x y u v p q = slice p q (λ s. (s, (tt, (tt, tt))))
 
--- ---- table::formats; store::checks, finds
+-- ---- table::formats; legal::checks; store::finds
 
 pub format-at-one : Determines formats.format_at.Kinds.ps formats.format_at.Kinds.r formats.format_at.Reads.Learnt
 format-at-one κs a x y u v p q = value p q

@@ -1,7 +1,6 @@
 -- The theorems: over histories, and of host and module together; the other files serve them.
 pub mod History
 pub mod Images
-pub mod Walk
 pub mod Retrieve
 pub mod StoreAgain
 pub mod Answers
@@ -9,7 +8,7 @@ pub mod Room
 pub mod NeverStored
 pub mod Agreement
 pub mod RequestLaws
-mod ShownLaws
+pub mod ShownLaws
 pub mod AnyMemory
 pub mod Bits
 pub mod Examples

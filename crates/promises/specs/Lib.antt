@@ -3,6 +3,5 @@ pub mod Numbers
 pub mod Histories
 pub mod Requests
 pub mod Calls
-pub mod Walks
 pub mod Retrieves
 pub mod Agreement

@@ -125,8 +125,9 @@ module _ (k : Key) (short : length k ≤ 16) (a b : List Namespace) (s : Namespa
       let p = part-held a b s h .holds in
       let x = pairAt (s .pairs) j in
       let i : 64 + 32 * total slotsOf a + 32 * j ≡ 64 + 32 * (total slotsOf a + j) = omega arith in
-      let e = field-at (total slotsOf a + j) (64 + 32 * total slotsOf a) (32 * slotsOf s) j 0 16 d i (omega arith) (omega arith) ∙ sixteen-at p j l in
-      let f = ap number (field-at (total slotsOf a + j) (64 + 32 * total slotsOf a) (32 * slotsOf s) j 16 4 d i (omega arith) (omega arith)) ∙ key-length-at p j l in
+      let o = 64 + 32 * total slotsOf a in
+      let e = field-at (total slotsOf a + j) o (32 * slotsOf s) j 0 16 d i (omega arith) (omega arith) ∙ sixteen-at p j l in
+      let f = ap number (field-at (total slotsOf a + j) o (32 * slotsOf s) j 16 4 d i (omega arith) (omega arith)) ∙ key-length-at p j l in
       let w = recorded-at (s .pairs) j l (p .recorded) .0 in
       rw (e, f, keys-at (s .pairs) j) (order-padded k (x .key) (16 - length k) (16 - length (x .key)) (omega arith))
 

@@ -20,7 +20,7 @@ use Rattle.module.specs.History.{Call, succeeded}
 use Rattle.promises.specs.Histories.{Start}
 use Rattle.promises.specs.Requests.{Request, call, asked, refusal, Proper, Gives}
 use Rattle.promises.specs.Retrieves.{SinceOn}
-use Rattle.promises.specs.Walks.{pageOn, Lists, OnwardOn, ended}
+use Rattle.walks.specs.Walks.{pageOn, Lists, OnwardOn, ended}
 use Rattle.standins.specs.Devices.{Device, at, moved, on, opens, opened, reached}
 use Rattle.standins.specs.Demands.{Opens, Accepts, Retrieves, Misses, Images, shownTo, Pages, Walks}
 use Rattle.standins.specs.StandIns.{Says, Leaves, Forgets, Idles, Posts, countOf, Counts, Invents, Empties}

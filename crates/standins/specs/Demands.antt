@@ -17,7 +17,7 @@ use Rattle.module.specs.History.{Call, succeeded}
 use Rattle.promises.specs.Histories.{Start, begun, Shows}
 use Rattle.promises.specs.Requests.{Request, call, asked, Proper, Gives}
 use Rattle.promises.specs.Retrieves.{valueIn, SinceOn}
-use Rattle.promises.specs.Walks.{WalkOn, Finds}
+use Rattle.walks.specs.Walks.{WalkOn, Finds}
 use Rattle.standins.specs.Devices.{Device, at, on, opens, reached}
 
 -- ---- that calls are carried out

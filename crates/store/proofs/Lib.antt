@@ -6,4 +6,3 @@ pub mod RecordLaws
 pub mod PartsLaws
 pub mod RankLaws
 pub mod SlotLaws
-pub mod LegalLaws

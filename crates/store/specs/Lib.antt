@@ -2,6 +2,5 @@ pub mod Maps
 pub mod Namespace
 pub mod Records
 pub mod Parts
-pub mod Checks
 pub mod Finds
 pub mod Slots

@@ -16,7 +16,7 @@ use Rattle.octets.proofs.NumberLaws.{Bytes}
 use Rattle.octets.proofs.ZeroLaws.{all-zeros}
 use Rattle.store.specs.Namespace.{Namespace}
 use Rattle.store.proofs.PartsLaws.{records-long, values-long}
-use Rattle.store.proofs.LegalLaws.{legal-part}
+use Rattle.legal.proofs.LegalLaws.{legal-part}
 use Rattle.memory.specs.declared.checks.Checked.{Checked}
 use Rattle.memory.specs.Namespaces.{slotsOf}
 use Rattle.memory.specs.Memory.{Memory, memory, halfOf, halfFor, headOf, labelIn, labelAt, namespaceAt, namespacesOf, legal}

@@ -14,15 +14,15 @@ use Rattle.octets.proofs.PartLaws.{length-part, part-two, part-inside, part-who
 use Rattle.octets.proofs.NumberLaws.{Bytes, bytes-in, bytes-part}
 use Rattle.octets.proofs.ZeroLaws.{all-zeros}
 use Rattle.store.specs.declared.namespaces.Label.{Label}
-use Rattle.store.specs.declared.checks.Sums.{Sums}
+use Rattle.legal.specs.declared.checks.Sums.{Sums}
 use Rattle.table.specs.Formats.{formatOf, slots}
 use Rattle.store.specs.Maps.{used}
 use Rattle.store.specs.Namespace.{Namespace}
 use Rattle.store.specs.Records.{pairsIn}
-use Rattle.store.specs.Checks.{Checkable, partLegal, partSums}
+use Rattle.legal.specs.Checks.{Checkable, partLegal, partSums}
 use Rattle.store.proofs.NamespaceLaws.{Permitted, no-number, permitted as permits, Within as One}
 use Rattle.store.proofs.PartsLaws.{length-pairs, records-long, values-long, pairs-held}
-use Rattle.store.proofs.LegalLaws.{Legal, legal-part, part-legal, sums-legal}
+use Rattle.legal.proofs.LegalLaws.{Legal, legal-part, part-legal, sums-legal}
 use Rattle.memory.specs.declared.permits.Permission.{Permission}
 use Rattle.memory.specs.Memory.{Memory, memory, halfOf, labelOf, halfFor, labelIn, labelAt, recordsIn, valuesIn, namespaceAt}
 use Rattle.memory.specs.Checks.{permitted, notLegal, CanSee, halfTests, halfChecked}

@@ -2,9 +2,9 @@ use Prim.Native.Nat.{_*_}
 use native.Mathlib.Nat.{add-zero}
 use borrow.Author.Needs.{needs}
 use Rattle.octets.proofs.PartLaws.{part-drop}
-use Rattle.store.specs.Checks.{slotIn}
-use Rattle.store.proofs.checks.slot_at.Statement.{statement}
-use Rattle.store.proofs.checks.slot_at.Tie as tie
+use Rattle.legal.specs.Checks.{slotIn}
+use Rattle.legal.proofs.checks.slot_at.Statement.{statement}
+use Rattle.legal.proofs.checks.slot_at.Tie as tie
 
 returns : tie.Need-returns
 unfolding slotIn

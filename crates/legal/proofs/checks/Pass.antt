@@ -19,14 +19,14 @@ use Rattle.keys.proofs.OrderLaws.{Below, BelowFirst, Rising, less-true}
 use Rattle.octets.proofs.ZeroLaws.{zeros-behind, part-filled}
 use Rattle.keys.proofs.ClearLaws.{clear-wide}
 use Rattle.keys.proofs.WideLaws.{Widened, widened-order, widened-part}
 use Rattle.store.specs.declared.namespaces.Label.{Label}
-use Rattle.store.specs.declared.checks.Sums.{Sums}
+use Rattle.legal.specs.declared.checks.Sums.{Sums}
 use Rattle.table.specs.Formats.{formatOf}
 use Rattle.store.specs.Maps.{Pair, pair, keys, used, values}
 use Rattle.store.specs.Records.{recordOf, recordsOf, keyLength, place, valueLength, owner, wideIn, pairsIn}
-use Rattle.store.specs.Checks.{noSums, slotIn, slotTests, passOver}
+use Rattle.legal.specs.Checks.{noSums, slotIn, slotTests, passOver}
 use Rattle.store.proofs.NamespaceLaws.{Admitted, Permitted, format-bounds}
 use Rattle.store.proofs.RecordLaws.{length-record, sixteen-in, key-length-in, place-in, value-length-in, id-in, rest-in}
 
 -- the tests of a record and the pass, under a label's own format
 abbrev passing : Label → ℕ → Wide → List ℕ → Bool

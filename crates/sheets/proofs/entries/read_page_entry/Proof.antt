@@ -3,9 +3,9 @@ use borrow.Author.Needs.{needs}
 use borrow.Author.Tests.{not-true, not-false}
 use Rattle.octets.specs.Octets.{part}
 use Rattle.keys.specs.Keys.{isLess}
 use Rattle.sheets.proofs.PageLaws.{first-short, first-sized, first-cut, first-unpadded, first-low, first-read}
-use Rattle.host.proofs.entries.read_page_entry.Statement.{statement}
-use Rattle.host.proofs.entries.read_page_entry.Tie as tie
+use Rattle.sheets.proofs.entries.read_page_entry.Statement.{statement}
+use Rattle.sheets.proofs.entries.read_page_entry.Tie as tie
 
 returns : tie.Need-returns
 returns c = c .refused .ensures ∙ sym (search first-short)

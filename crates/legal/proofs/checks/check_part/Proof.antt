@@ -4,10 +4,10 @@ use lib.ListN.{length}
 use borrow.Author.Needs.{needs}
 use Rattle.octets.specs.Octets.{part}
 use Rattle.octets.proofs.NumberLaws.{Bytes}
-use Rattle.store.specs.Checks.{Readable}
-use Rattle.store.proofs.checks.Answers.{part-readable, part-many, part-sums, part-fits, part-zeros, part-passed}
-use Rattle.store.proofs.checks.check_part.Statement.{statement}
-use Rattle.store.proofs.checks.check_part.Tie as tie
+use Rattle.legal.specs.Checks.{Readable}
+use Rattle.legal.proofs.checks.Answers.{part-readable, part-many, part-sums, part-fits, part-zeros, part-passed}
+use Rattle.legal.proofs.checks.check_part.Statement.{statement}
+use Rattle.legal.proofs.checks.check_part.Tie as tie
 
 bytes : (c : tie.After-shared-slice-known) → Bytes (c .before .args .records .now)
 bytes c = λ i l. c .shared-slice-known .given i .fits

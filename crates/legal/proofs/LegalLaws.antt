@@ -7,18 +7,18 @@ use native.Mathlib.Omega.{arith}
 use Rattle.octets.proofs.TestLaws.{all-true, true-all, contrary}
 use Rattle.octets.proofs.ZeroLaws.{true-same, same-true}
 use Rattle.keys.proofs.OrderLaws.{true-rising}
 use Rattle.store.specs.declared.namespaces.Label.{Label}
-use Rattle.store.specs.declared.checks.Sums.{Sums}
+use Rattle.legal.specs.declared.checks.Sums.{Sums}
 use Rattle.table.specs.Formats.{slots}
 use Rattle.store.specs.Maps.{Pair, keys}
 use Rattle.store.specs.Records.{pairsIn}
 use Rattle.store.specs.Parts.{labelled, Holds}
-use Rattle.store.specs.Checks.{partTests, partLegal, sumsOf, partSums}
+use Rattle.legal.specs.Checks.{partTests, partLegal, sumsOf, partSums}
 use Rattle.store.specs.Finds.{KeysFit}
 use Rattle.store.proofs.NamespaceLaws.{Within, within-true, true-within, format-bounds}
 use Rattle.store.proofs.PartsLaws.{length-pairs, records-long, held}
 use Rattle.store.proofs.SlotLaws.{key-fits-at}
 use Rattle.store.proofs.RankLaws.{keys-in}
 
 pub record Legal (h : Label) (m : List Pair) (s vs : List ℕ) : Type 0 where
   pub within : Within (labelled h m)

@@ -1,9 +1,9 @@
 use Prim.Native.Nat.{_-_, _≤_}
 use native.Mathlib.Omega.{arith}
 use borrow.Author.Needs.{needs}
-use Rattle.store.proofs.checks.Turns.{PassedOver, over-none, over-done, slot-refused, slot-short, over-more}
-use Rattle.store.proofs.checks.check_records.Statement.{statement}
-use Rattle.store.proofs.checks.check_records.Tie as tie
+use Rattle.legal.proofs.checks.Turns.{PassedOver, over-none, over-done, slot-refused, slot-short, over-more}
+use Rattle.legal.proofs.checks.check_records.Statement.{statement}
+use Rattle.legal.proofs.checks.check_records.Tie as tie
 
 abbrev Inv-loop : tie.InvT-loop
 Inv-loop records id count f before₀ total₀ keys₀ j₀ before total keys j = PassedOver count id f records before total keys j

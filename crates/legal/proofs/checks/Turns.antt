@@ -12,8 +12,8 @@ use Rattle.keys.specs.declared.orders.Wide.{Wide}
 use Rattle.octets.specs.Tests.{all}
 use Rattle.octets.proofs.TestLaws.{all-true}
 use Rattle.table.specs.declared.formats.Format.{Format}
-use Rattle.store.specs.declared.checks.Slot.{Slot}
-use Rattle.store.specs.Checks.{noSums, slotIn, slotTests, firstWide, passOver}
+use Rattle.legal.specs.declared.checks.Slot.{Slot}
+use Rattle.legal.specs.Checks.{noSums, slotIn, slotTests, firstWide, passOver}
 
 -- the invariant: j records are passed, with the sums of their value and key lengths, and w is the last key
 pub record PassedOver (n id : ℕ) (f : Format) (s : List ℕ) (w : Wide) (total keys j : ℕ) : Type 0 where

@@ -10,14 +10,14 @@ use Rattle.octets.specs.Octets.{same}
 use Rattle.keys.specs.Keys.{isLess, orderWide, clearWide}
 use Rattle.octets.specs.Tests.{all, firstOf}
 use Rattle.table.specs.declared.formats.Format.{Format}
 use Rattle.store.specs.declared.namespaces.Label.{Label}
-use Rattle.store.specs.declared.checks.Sums.{Sums}
-use Rattle.store.specs.declared.checks.Slot.{Slot}
+use Rattle.legal.specs.declared.checks.Sums.{Sums}
+use Rattle.legal.specs.declared.checks.Slot.{Slot}
 use Rattle.table.specs.Formats.{formatOf, slots}
 use Rattle.store.specs.Maps.{Pair, values, used}
 use Rattle.store.specs.Namespace.{permitSteps, within}
 use Rattle.store.specs.Records.{recordsPart, valuesPart, keyLength, place, valueLength, owner, wideIn, pairsIn}
 use Rattle.store.specs.Parts.{labelled}
 
 -- ---- two parts
 

@@ -6,9 +6,9 @@ use borrow.Author.Needs.{needs}
 use borrow.Author.Tests.{not-true, not-false}
 use Rattle.octets.specs.Tests.{all}
 use Rattle.octets.proofs.TestLaws.{and-fails, and-holds}
-use Rattle.store.specs.Checks.{slotTests}
-use Rattle.store.proofs.checks.slot_ok.Statement.{statement}
-use Rattle.store.proofs.checks.slot_ok.Tie as tie
+use Rattle.legal.specs.Checks.{slotTests}
+use Rattle.legal.proofs.checks.slot_ok.Statement.{statement}
+use Rattle.legal.proofs.checks.slot_ok.Tie as tie
 
 -- the fields' five tests, then the key's order and the zeros behind it
 abbrev tests : tie.Start → List Bool

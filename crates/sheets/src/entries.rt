@@ -1,13 +1,13 @@
 // The entries of a List page, read.
+use crate::pages::PageEntry;
+use crate::pages::page_entry_size;
 use keys::orders;
 use keys::orders::Order;
 use octets::runs;
 use octets::words;
-use sheets::pages::PageEntry;
-use sheets::pages::page_entry_size;
 ghost use mathlib.Core.Path.{_≡_};
 ghost use Rattle.keys.specs.Keys.{isLess};
 ghost use Rattle.sheets.specs.Page.{firstEntry};
 
 fn refused(number: u32) -> PageEntry
     ensures { λ r. ⌜ r ≡ record { number = number; len = 0 } ⌝ }

@@ -28,13 +28,13 @@ use Rattle.rules.specs.Steps.{steps, statusOf}
 use Rattle.commands.specs.Answer.{answer, pairsAfter}
 use Rattle.module.specs.History.{Call, formatting, commanding, asking, polling, run, leaves, succeeded, changed, told}
 use Rattle.module.proofs.HistoryLaws.{told-call}
 use Rattle.promises.specs.Histories.{Start, begun, memoryAfter, storedAfter, storedIn, never, changes}
 use Rattle.promises.specs.Requests.{Request, call, sends, asked}
-use Rattle.promises.specs.Walks.{pageRead, newOn, lastOf, Lists, Onward, ended, paused, next, Walk, Finds}
+use Rattle.walks.specs.Walks.{pageRead, newOn, lastOf, Lists, Onward, ended, paused, next, Walk, Finds}
 use Rattle.promises.proofs.RequestLaws.{holds-after, later-steps, named-one, gives}
 use Rattle.promises.proofs.Retrieve.{unchanged-at}
 use Rattle.promises.proofs.ShownLaws.{Pageable, pageable, pageable-right, fits-begins, fits-none, from-empty, from-stored, shown-read}
 use Rattle.promises.proofs.Examples.{onMemory, start, start-begun, startTwo, two-begun, A, key, store, storeTwo, exist, list}
 
 -- ---- calls that change nothing in n
 

@@ -19,17 +19,17 @@ use Rattle.octets.proofs.TestLaws.{refuted, contrary, both, neither}
 use Rattle.octets.proofs.ZeroLaws.{all-zeros, zeros-behind}
 use Rattle.keys.proofs.WideLaws.{widened-none}
 use Rattle.table.specs.declared.formats.Format.{Format}
 use Rattle.store.specs.declared.namespaces.Label.{Label}
-use Rattle.store.specs.declared.checks.Sums.{Sums}
+use Rattle.legal.specs.declared.checks.Sums.{Sums}
 use Rattle.table.specs.Formats.{slots}
 use Rattle.store.specs.Maps.{Pair, keys, used, values}
 use Rattle.store.specs.Records.{recordsOf, recordsPart, valuesPart, valueLength, pairsIn}
 use Rattle.store.specs.Parts.{labelled}
-use Rattle.store.specs.Checks.{Readable, Checkable, partLegal, noSums, sumsOf, partSums, firstWide, passOver}
+use Rattle.legal.specs.Checks.{Readable, Checkable, partLegal, noSums, sumsOf, partSums, firstWide, passOver}
 use Rattle.store.proofs.NamespaceLaws.{Admitted, Permitted, permitted, Within, format-bounds}
 use Rattle.store.proofs.PartsLaws.{admitted-recorded, length-records, length-pairs, held}
-use Rattle.store.proofs.LegalLaws.{Legal, legal-part, part-legal}
-use Rattle.store.proofs.checks.Pass.{pass, grows, Stands, sound, complete}
+use Rattle.legal.proofs.LegalLaws.{Legal, legal-part, part-legal}
+use Rattle.legal.proofs.checks.Pass.{pass, grows, Stands, sound, complete}
 
 -- ---- a records part and a values part
 

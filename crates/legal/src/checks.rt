@@ -1,20 +1,20 @@
 // Whether two parts are the image of a map, found in one pass over the records, with the sums that the pass has made.
-use crate::namespaces::Label;
-use crate::records::key_length_at;
-use crate::records::owner_at;
-use crate::records::place_at;
-use crate::records::value_length_at;
 use keys::orders::Wide;
 use keys::orders::is_clear;
 use keys::orders::less;
 use keys::orders::widen;
 use octets::runs::all_zero;
+use store::namespaces::Label;
+use store::records::key_length_at;
+use store::records::owner_at;
+use store::records::place_at;
+use store::records::value_length_at;
 use table::formats::Format;
 ghost use mathlib.Core.Path.{_≡_};
 ghost use Prim.Native.Nat.{_+_, _*_, _≤_};
 ghost use lib.ListN.{length, drop};
 ghost use Rattle.octets.specs.Tests.{all};
-ghost use Rattle.store.specs.Checks.{Readable, Checkable, slotIn, slotTests, firstWide, passOver, partSums};
+ghost use Rattle.legal.specs.Checks.{Readable, Checkable, slotIn, slotTests, firstWide, passOver, partSums};
 
 // The sum of the value lengths and the used room of parts that are legal, so that no command adds them up again.
 pub struct Sums {

@@ -1,0 +1,2 @@
+// Whether the two parts of one namespace are the image of a map.
+pub mod checks;

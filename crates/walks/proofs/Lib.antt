@@ -1,0 +1,2 @@
+-- The theorem on walks, over histories.
+pub mod Walk

@@ -1,0 +1,1 @@
+// Definitions and a theorem only: what a walk by List finds.
