@@ -1,2 +1,3 @@
+#![tactic(auto)]
 // The map of one namespace changed.
 pub mod pairs;

@@ -13,7 +13,7 @@ use table::formats::Format;
 
 // A namespace's numbers, where its half, its records and its values begin, and the sum of the value lengths, so that nothing is found twice.
 // Of memory that is not legal all is 0.
-#[derive(Drop)]
+#[derive(Clone, Copy)]
 pub struct Checked {
     pub ok: bool,
     pub label: Label,

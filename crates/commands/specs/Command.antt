@@ -1,15 +1,16 @@
 -- One command between bytes: numbers 1 and 2, the entry read, steps a to j, the effect, the completion written. Assumes nothing.
-use Rattle.std.specs.Prelude.{cond, List, [], ◌∷◌, ℕ, eqb}
+use Rattle.std.specs.Prelude.{cond, List, [], ◌∷◌, ℕ, ◌%◌, eqb}
 use Rattle.octets.specs.Tests.{first_of}
 use Rattle.wire.specs.declared.entries.Command.{Command}
 use Rattle.wire.specs.Entry.{read_command, not_entry}
-use Rattle.wire.specs.Completion.{not_completion, Post, posted}
+use Rattle.wire.specs.Completion.{write_completion, not_completion, Post}
 use Rattle.memory.specs.Namespaces.{at, with}
 use Rattle.memory.specs.Memory.{Memory, memory, image_over, namespaces_of, legal}
 use Rattle.commands.specs.Answer.{answer}
 
 abbrev pub completion_of : Post → Command → ℕ → ℕ → List ℕ
-completion_of p c status dword0 = posted p c.cid status dword0
+completion_of p c status dword0 =
+    write_completion (record { dword0 = dword0; head = p.head; queue = p.queue; cid = c.cid; phase = p.phase % 2; status = status; kind = 0 })
 
 -- the lent slices
 pub record Lent : Type 0 where

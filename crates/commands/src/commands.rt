@@ -13,7 +13,7 @@ use wire::completions::{Completion, write_completion};
 use wire::entries::{Command, read_entry};
 
 // What a command answers beside the slices.
-#[derive(Drop)]
+#[derive(Clone, Copy)]
 struct Reply {
     status: u8,
     dword0: u32,

@@ -1,3 +1,4 @@
+#![tactic(auto)]
 // Formatting, for one namespace or for two.
 mod blanks;
 pub mod formats;

@@ -6,7 +6,7 @@ use memory::labels::HEAD;
 use memory::permits::permit;
 
 // What is asked for one namespace.
-#[derive(Drop)]
+#[derive(Clone, Copy)]
 pub struct Half {
     pub index: u32,
     pub id: u32,
@@ -14,7 +14,7 @@ pub struct Half {
 }
 
 // A house number and, where it is 0, the end of the records in the directory.
-#[derive(Drop)]
+#[derive(Clone, Copy)]
 pub struct Measured {
     pub number: u32,
     pub end: usize,

@@ -6,7 +6,7 @@ ghost use Rattle.keys.specs.Keys.{order, is_less, is_equal, wide_of, order_wide,
 use crate::wide::read_big;
 use octets::runs::copy;
 
-#[derive(Drop)]
+#[derive(Clone, Copy)]
 pub enum Order {
     Less,
     Equal,
@@ -39,7 +39,7 @@ pub fn compare(a: &[u8], b: &[u8]) -> Order
 
 // A key that stands in sixteen bytes with zeros behind it, as two numbers with the highest byte first, and its length. Such keys
 // stand in the order of their numbers (`widened_order`), so that they are compared with no loop.
-#[derive(Drop)]
+#[derive(Clone, Copy)]
 pub struct Wide {
     pub high: u64,
     pub low: u64,

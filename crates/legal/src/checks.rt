@@ -10,7 +10,7 @@ use store::records::{key_length_at, owner_at, place_at, value_length_at};
 use table::formats::Format;
 
 // The sum of the value lengths and the used room of parts that are legal, so that no command adds them up again.
-#[derive(Drop)]
+#[derive(Clone, Copy)]
 pub struct Sums {
     pub ok: bool,
     pub total: u32,
@@ -24,7 +24,7 @@ const NO_SUMS: Sums = Sums {
 };
 
 // What a record says. The key as numbers serves its own tests and, as the key before, those of the next record.
-#[derive(Drop)]
+#[derive(Clone, Copy)]
 struct Slot {
     key: Wide,
     keylength: u32,

@@ -1,2 +1,3 @@
+#![tactic(auto)]
 // Whether the two parts of one namespace are the image of a map.
 pub mod checks;

@@ -19,7 +19,7 @@ use Rattle.store.proofs.PartsLaws.{pairs_held, held_again}
 use Rattle.store.proofs.RankLaws.{keys_in_law}
 use Rattle.legal.proofs.LegalLaws.{Legal as Part, keys_fit}
 use Rattle.checking.specs.declared.checks.Checked.{Checked}
-use Rattle.memory.specs.Namespaces.{total, slots_of, size_of, held, at}
+use Rattle.memory.specs.Namespaces.{slots_of, size_of, held, at}
 use Rattle.memory.specs.Memory.{Memory, memory, label_of, records_in, values_in, namespaces_of, pairs_at, legal}
 use Rattle.checking.specs.Checks.{numbers_after, numbers_of, checked}
 use Rattle.memory.proofs.JoinLaws.{each_at, total_at}

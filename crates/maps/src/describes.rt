@@ -6,7 +6,7 @@ ghost use Rattle.maps.specs.Describe.{undescribed, describe};
 use checking::checks::check;
 
 // Beside a number other than 0 the rest is 0.
-#[derive(Drop)]
+#[derive(Clone, Copy)]
 pub struct Described {
     pub number: u32,
     pub index: u32,

@@ -12,7 +12,7 @@ use Rattle.store.proofs.NamespaceLaws.{Within as One}
 use Rattle.store.proofs.PartsLaws.{held}
 use Rattle.legal.proofs.LegalLaws.{Legal}
 use Rattle.memory.specs.Namespaces.{joined, total, slots_of, size_of}
-use Rattle.memory.specs.Memory.{Memory, memory, needed, needed_values, label_of, half_for, records_for, values_for, head_of, directory_of, values_of}
+use Rattle.memory.specs.Memory.{memory, needed, needed_values, label_of, half_for, records_for, values_for, head_of, directory_of, values_of}
 use Rattle.memory.specs.Memory.{label_at, records_in, values_in}
 use Rattle.memory.proofs.JoinLaws.{each_at}
 use Rattle.memory.proofs.LimitLaws.{Within}

@@ -12,7 +12,7 @@ pub const NO_FORMAT: Format = Format {
 };
 
 // A house number and, where the index is one of the sixteen, the format.
-#[derive(Drop)]
+#[derive(Clone, Copy)]
 pub struct Permission {
     pub number: u32,
     pub format: Format,

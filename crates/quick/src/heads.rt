@@ -8,7 +8,7 @@ use octets::words::read32;
 use table::formats::format_at;
 
 // What a half asks of the slices, and whether it may.
-#[derive(Drop)]
+#[derive(Clone, Copy)]
 pub struct Claim {
     pub sound: bool,
     pub slots: u32,
@@ -47,7 +47,7 @@ fn judge(half: &[u8]) -> Claim
 }
 
 // A house number; the first slot, counted over the whole directory, and how many hold keys.
-#[derive(Drop)]
+#[derive(Clone, Copy)]
 pub struct Run {
     pub number: u32,
     pub first: u32,

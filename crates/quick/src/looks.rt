@@ -10,7 +10,7 @@ use memory::labels::HEAD;
 
 // A house number; 1 for yes and 0 for no; how many records were looked at.
 #[repr(C)]
-#[derive(Drop)]
+#[derive(Clone, Copy)]
 pub struct Look {
     pub number: u32,
     pub known: u32,

@@ -6,7 +6,7 @@ ghost use Rattle.ranges.specs.Request.{read_request, numbers, statuses};
 use octets::words;
 
 // The range has `len` bytes from byte `start` on.
-#[derive(Drop)]
+#[derive(Clone, Copy)]
 pub struct Request {
     pub cid: u16,
     pub nsid: u32,

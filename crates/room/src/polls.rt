@@ -7,7 +7,7 @@ use maps::describes::describe;
 
 // Beside a number other than 0 the rest is 0.
 #[repr(C)]
-#[derive(Drop)]
+#[derive(Clone, Copy)]
 pub struct Room {
     pub number: u32,
     pub used: u32,

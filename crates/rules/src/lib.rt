@@ -1,2 +1,3 @@
+#![tactic(auto)]
 // Steps a to j.
 pub mod steps;

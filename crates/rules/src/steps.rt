@@ -9,7 +9,7 @@ use table::formats::Format;
 use wire::entries::{Command, DELETE, EXIST, LIST, RETRIEVE, STORE};
 
 // What the steps to h look at beside the command: whether memory is legal, the namespace's format and id, and the length of the data buffer.
-#[derive(Drop)]
+#[derive(Clone, Copy)]
 pub struct View {
     pub legal: bool,
     pub format: Format,
@@ -18,7 +18,7 @@ pub struct View {
 }
 
 // What steps i and j look at: whether the key is held and the room of its pair, how full the namespace is, and its limits.
-#[derive(Drop)]
+#[derive(Clone, Copy)]
 pub struct Stock {
     pub held: bool,
     pub old: u64,
@@ -29,7 +29,7 @@ pub struct Stock {
 }
 
 // A test, and the status that it names.
-#[derive(Drop)]
+#[derive(Clone, Copy)]
 pub struct Row(pub bool, pub u8);
 
 // The first status whose test holds, else 0.

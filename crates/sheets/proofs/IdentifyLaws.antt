@@ -6,7 +6,7 @@ use native.Mathlib.Decide.{dec_lt}
 use native.Mathlib.Omega.{arith}
 use lib.ListN.{length, length-append}
 use borrow.Author.Tests.{le-leb, lt-leb, le-ltb}
-use Rattle.octets.specs.Octets.{part, number, bytes}
+use Rattle.octets.specs.Octets.{part}
 use Rattle.octets.proofs.PartLaws.{part_seam}
 use Rattle.octets.proofs.NumberLaws.{number_bytes}
 use Rattle.octets.proofs.ZeroLaws.{length_filled}

@@ -2,7 +2,7 @@
 ghost use Rattle.std.specs.Prelude.{◌≡◌, ◌%◌};
 
 // What a descriptor says of a format.
-#[derive(Drop)]
+#[derive(Clone, Copy)]
 pub struct Limits {
     pub keymax: u16,
     pub valuemax: u32,

@@ -1,3 +1,4 @@
+#![tactic(auto)]
 // The pages that host and module exchange: the List page, the Identify page. Each contract is one equation with a definition of `specs/`.
 pub mod entries;
 pub mod identify;

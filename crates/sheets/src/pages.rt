@@ -60,7 +60,7 @@ pub fn write_page_entry(rest: &mut [u8], field: &[u8], n: usize)
 }
 
 // What a host reads of an entry: a house number, and where that is 0 the length of the entry's key.
-#[derive(Drop)]
+#[derive(Clone, Copy)]
 pub struct PageEntry {
     pub number: u32,
     pub len: usize,

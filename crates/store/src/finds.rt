@@ -7,7 +7,7 @@ use crate::records::wide_at;
 use keys::orders::{equal, less, widen};
 
 // A key with the slot of the first record that is not below it, and whether that one holds it.
-#[derive(Drop)]
+#[derive(Clone, Copy)]
 pub struct Found {
     pub key: [u8; 16],
     pub len: u8,

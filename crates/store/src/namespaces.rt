@@ -1,6 +1,6 @@
 // What is known of a namespace beside its parts.
 
-#[derive(Drop)]
+#[derive(Clone, Copy)]
 pub struct Label {
     pub id: u32,
     pub index: u32,

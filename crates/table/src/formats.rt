@@ -3,7 +3,7 @@ ghost use Rattle.std.specs.Prelude.{◌≡◌, ◌<◌};
 ghost use Rattle.table.specs.Formats.{format_of};
 
 // The limits that a format sets.
-#[derive(Drop)]
+#[derive(Clone, Copy)]
 pub struct Format {
     pub keymax: u8,
     pub valuemax: u32,

@@ -1,7 +1,7 @@
 -- What the verbs on two parts ask for, and what they do to the records. Assumes nothing.
 use Rattle.std.specs.Prelude.{ℕ, ◌+◌, ◌*◌, ◌<◌, ◌≤◌, cond, List, ◌++◌, length, drop, nat_lt}
 use Rattle.octets.specs.Octets.{part, put, zeros}
-use Rattle.store.specs.Maps.{Pair, pair}
+use Rattle.store.specs.Maps.{Pair}
 use Rattle.store.specs.Records.{record_of, place, value_length}
 use Rattle.store.specs.Slots.{raised, Standing}
 

@@ -1,2 +1,3 @@
+#![tactic(auto)]
 // The verbs on the two parts of a namespace.
 pub mod slots;

@@ -30,6 +30,6 @@ completion_back c w =
     (rw (number_bytes 2 c.cid w.cid_in, number_bytes 2 (word c) (omega arith), u.0, u.1, u.2))
 
 -- what is said in a completion with any status
-pub status_back : (p : Post) (cid st n : ℕ) → st < 256 → (read_completion (posted p cid st n)).status ≡ st
+pub posted_status : (p : Post) (cid st n : ℕ) → st < 256 → (read_completion (posted p cid st n)).status ≡ st
 unfolding read_completion write_completion part number
-status_back p cid st n h = omega arith
+posted_status p cid st n h = omega arith

@@ -4,7 +4,7 @@ use mathlib.Core.List.{List, [], ◌∷◌, ◌++◌}
 use Prim.Native.Nat.{ℕ, ◌%◌, ◌^◌, ◌≤◌, ◌<◌}
 use native.Mathlib.Omega.{arith}
 use lib.ListN.{length, length-append}
-use Rattle.octets.specs.Octets.{part, put, bytes, zeros}
+use Rattle.octets.specs.Octets.{part, put, zeros}
 use Rattle.octets.proofs.PartLaws.{each, part_each, length_part, part_whole, puts_whole}
 use Rattle.octets.proofs.NumberLaws.{number_bytes}
 use Rattle.wire.specs.declared.entries.Command.{Command}

@@ -5,7 +5,7 @@ ghost use Rattle.wire.specs.Completion.{word, phase_in, status_in, kind_in, writ
 use octets::words;
 
 // head and queue are those of the submission queue; kind is the status code type, `type` being a word of the language.
-#[derive(Drop)]
+#[derive(Clone, Copy)]
 pub struct Completion {
     pub dword0: u32,
     pub head: u16,

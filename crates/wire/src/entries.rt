@@ -16,7 +16,7 @@ pub const DELETE: u8 = 0x10;
 pub const EXIST: u8 = 0x14;
 
 // What an entry says; the key is the first `len` of its sixteen bytes, amount is Dword 10.
-#[derive(Drop)]
+#[derive(Clone, Copy)]
 pub struct Command {
     pub opcode: u8,
     pub fused: u8,

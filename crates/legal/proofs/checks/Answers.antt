@@ -10,7 +10,7 @@ use lib.ListN.{length, drop, length-append, take-append-drop}
 use lib.Seq.{drop-append_seam}
 use borrow.Author.Tests.{ltb-false, le-ltb, not-false}
 use Rattle.keys.specs.declared.orders.Order.TheVariants.{Less}
-use Rattle.octets.specs.Octets.{part, zeros, filled, all_zero}
+use Rattle.octets.specs.Octets.{part, filled, all_zero}
 use Rattle.keys.specs.Keys.{Key, order}
 use Rattle.octets.proofs.PartLaws.{part_rest}
 use Rattle.octets.proofs.NumberLaws.{Bytes}

@@ -8,7 +8,7 @@ use Rattle.octets.specs.Octets.{put}
 use Rattle.keys.specs.Keys.{Key, from}
 use Rattle.sheets.specs.Page.{page, fits, shown}
 use Rattle.store.specs.declared.finds.Found.{Found}
-use Rattle.store.specs.Maps.{Pair, keys, value_of}
+use Rattle.store.specs.Maps.{Pair, value_of}
 use Rattle.store.specs.Records.{value_length, value_in}
 use Rattle.store.specs.Finds.{found_key}
 use Rattle.store.specs.Slots.{pair_at, CanCopy}

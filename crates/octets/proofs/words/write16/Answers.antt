@@ -1,0 +1,11 @@
+use native.Mathlib.Numerals.{towards_suc}
+use native.Mathlib.Omega.{arith}
+use lib.ListN.{length-set}
+use Rattle.octets.proofs.PartLaws.{sets_put}
+use Rattle.octets.proofs.words.write16.Goals as goal
+
+pub bounds-s-at-2 : goal.bounds-s-at-2
+bounds-s-at-2 c = simp length-set (omega arith)
+
+pub returns : goal.returns
+returns c = simp towards_suc (sets_put c.args.at _ c.args.s.now (omega arith))
