@@ -54,8 +54,7 @@ fn command_of(opcode: u8, cid: u16, nsid: u32, key: &[u8], dword10: u32, options
 }
 
 // Numbers 1, 12, 13.
-#[unsafe(no_mangle)]
-pub extern "C" fn kv_build(
+pub fn kv_build(
     entry: &mut [u8],
     opcode: u8,
     cid: u16,

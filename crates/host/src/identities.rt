@@ -8,7 +8,7 @@ use sheets::identify::{Limits, index_in};
 
 // A house number, what the page says of its namespace, and the limits of one format.
 #[repr(C)]
-#[derive(Drop)]
+#[derive(Clone, Copy)]
 pub struct Identity {
     pub number: u32,
     pub formats: u32,
@@ -74,8 +74,7 @@ fn limits_at(page: &[u8], ordinal: u32) -> Limits
 }
 
 // Number 14. Nothing else of the page is checked.
-#[unsafe(no_mangle)]
-pub extern "C" fn kv_read_identify(page: &[u8], ordinal: u32) -> Identity
+pub fn kv_read_identify(page: &[u8], ordinal: u32) -> Identity
     ensures { result ≡ identity page.now ordinal }
 {
     if page.len() != 4096 {

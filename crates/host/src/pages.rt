@@ -10,7 +10,7 @@ use sheets::pages::page_entry_size;
 
 // A house number, the count of a page's keys, and one of them.
 #[repr(C)]
-#[derive(Drop)]
+#[derive(Clone, Copy)]
 pub struct PageKey {
     pub number: u32,
     pub count: u32,
@@ -43,8 +43,7 @@ fn page_key(count: u32, key: &[u8]) -> PageKey
 }
 
 // A key is given of a page that is right to its end.
-#[unsafe(no_mangle)]
-pub extern "C" fn kv_read_page(page: &[u8], ordinal: u32) -> PageKey
+pub fn kv_read_page(page: &[u8], ordinal: u32) -> PageKey
     ensures { result ≡ page_key (read_page page.now) ordinal }
 {
     if page.len() < 4 {

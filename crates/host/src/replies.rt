@@ -6,7 +6,7 @@ use wire::completions;
 
 // A house number and the completion's fields; kind is the status code type, `type` being a word of the language.
 #[repr(C)]
-#[derive(Drop)]
+#[derive(Clone, Copy)]
 pub struct Reply {
     pub number: u32,
     pub dword0: u32,
@@ -19,8 +19,7 @@ pub struct Reply {
 }
 
 // Number 2.
-#[unsafe(no_mangle)]
-pub extern "C" fn kv_read_completion(completion: &[u8]) -> Reply
+pub fn kv_read_completion(completion: &[u8]) -> Reply
     ensures { result ≡ reply completion.now }
 {
     if completion.len() != 16 {

@@ -8,12 +8,12 @@ use native.Mathlib.Omega.{arith}
 use lib.ListN.{length}
 use lib.Dec.{eqb}
 use borrow.Author.Tests.{eqb-true, eq-eqb}
-use Rattle.octets.specs.Octets.{part, number, bytes}
+use Rattle.octets.specs.Octets.{part}
 use Rattle.octets.proofs.TestLaws.{known, holds, fails}
 use Rattle.octets.proofs.NumberLaws.{number_bytes}
 use Rattle.wire.specs.declared.entries.Command.{Command}
 use Rattle.wire.specs.Entry.{read_command}
-use Rattle.wire.proofs.CompletionLaws.{status_back}
+use Rattle.wire.proofs.CompletionLaws.{posted_status}
 use Rattle.wire.specs.Completion.{read_completion, write_completion, Post}
 use Rattle.store.specs.Namespace.{Namespace}
 use Rattle.memory.specs.Namespaces.{at, with}
@@ -38,6 +38,9 @@ use Rattle.module.specs.History.{Layout, one, two, fields, halves, begin, Questi
 use Rattle.module.specs.History.{Call, formatting, commanding, asking, lend, run, leaves, told, stored}
 
 -- ---- a command that numbers 1 and 2 let pass
+
+pub status_back : (p : Post) (c : Command) (st n : ℕ) → st < 256 → (read_completion (completion_of p c st n)).status ≡ st
+status_back p c st n h = posted_status p c.cid st n h
 
 dword_back : (p : Post) (c : Command) (st n : ℕ) → n < 256 ^ 4 → (read_completion (completion_of p c st n)).dword0 ≡ n
 unfolding read_completion write_completion part
@@ -66,7 +69,7 @@ module _ (ss : List Namespace) (m : Memory) (p : Post) (e c b : List ℕ) (h : H
   pub call_status : (read_completion (run m (commanding p e c b)).after.completion).status ≡ status_of true s (read_command e) (length b)
   call_status =
       rw (served, serve_is p (read_command e) (lend c b m) ss h, answer_status true s (read_command e) b)
-      (status_back p (read_command e).cid (status_of true s (read_command e) (length b)) given.dword0 (status_byte true s (read_command e) (length b)))
+      (status_back p (read_command e) (status_of true s (read_command e) (length b)) given.dword0 (status_byte true s (read_command e) (length b)))
 
   pub call_dword0 : given.dword0 < 256 ^ 4 → (read_completion (run m (commanding p e c b)).after.completion).dword0 ≡ given.dword0
   call_dword0 small =

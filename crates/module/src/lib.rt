@@ -1,4 +1,5 @@
-// The device's calls, in the order of `include/kv.h`.
+#![tactic(auto)]
+// The device's calls, in the order of `include/kv.h`; `module_c` exports them to C.
 ghost use Rattle.std.specs.Prelude.{◌≡◌, [], ◌∷◌};
 ghost use Rattle.memory.specs.Memory.{memory};
 ghost use Rattle.formatting.specs.Formatting.{half, formatted, format};
@@ -18,22 +19,14 @@ use quick::looks::{Look, known};
 use room::polls::{Room, used_room};
 use scratch::calls::{memory_fill, memory_read, memory_write};
 
-#[unsafe(no_mangle)]
-pub extern "C" fn kv_format(
-    index: u32,
-    id: u32,
-    size: u64,
-    directory: &mut [u8],
-    values: &mut [u8],
-) -> u32
+pub fn kv_format(index: u32, id: u32, size: u64, directory: &mut [u8], values: &mut [u8]) -> u32
     ensures { formatted result (memory directory.new values.new)
         ≡ format (half index id size ∷ []) (memory directory.old values.old) }
 {
     format(Half { index, id, size }, directory, values)
 }
 
-#[unsafe(no_mangle)]
-pub extern "C" fn kv_format_two(
+pub fn kv_format_two(
     index1: u32,
     id1: u32,
     size1: u64,
@@ -59,21 +52,14 @@ pub extern "C" fn kv_format_two(
     format_two(first, second, directory, values)
 }
 
-#[unsafe(no_mangle)]
-pub extern "C" fn kv_format_fields(
-    fields: &[u8],
-    id: u32,
-    directory: &mut [u8],
-    values: &mut [u8],
-) -> u32
+pub fn kv_format_fields(fields: &[u8], id: u32, directory: &mut [u8], values: &mut [u8]) -> u32
     ensures { formatted result (memory directory.new values.new)
         ≡ create fields.now id (memory directory.old values.old) }
 {
     create(fields, id, directory, values)
 }
 
-#[unsafe(no_mangle)]
-pub extern "C" fn kv_command(
+pub fn kv_command(
     entry: &[u8],
     completion: &mut [u8],
     buffer: &mut [u8],
@@ -92,29 +78,25 @@ pub extern "C" fn kv_command(
     )
 }
 
-#[unsafe(no_mangle)]
-pub extern "C" fn kv_used(id: u32, directory: &[u8], values: &[u8]) -> Room
+pub fn kv_used(id: u32, directory: &[u8], values: &[u8]) -> Room
     ensures { result ≡ room id (memory directory.now values.now) }
 {
     used_room(id, directory, values)
 }
 
-#[unsafe(no_mangle)]
-pub extern "C" fn kv_identify(page: &mut [u8], id: u32, directory: &[u8], values: &[u8]) -> u32
+pub fn kv_identify(page: &mut [u8], id: u32, directory: &[u8], values: &[u8]) -> u32
     ensures { identified result page.new ≡ identify id page.old (memory directory.now values.now) }
 {
     identify(page, id, directory, values)
 }
 
-#[unsafe(no_mangle)]
-pub extern "C" fn kv_known(key: &[u8], id: u32, directory: &[u8], values: &[u8]) -> Look
+pub fn kv_known(key: &[u8], id: u32, directory: &[u8], values: &[u8]) -> Look
     ensures { result ≡ known key.now id (memory directory.now values.now) }
 {
     known(key, id, directory, values)
 }
 
-#[unsafe(no_mangle)]
-pub extern "C" fn kv_memory_read(
+pub fn kv_memory_read(
     entry: &[u8],
     completion: &mut [u8],
     buffer: &mut [u8],
@@ -131,8 +113,7 @@ pub extern "C" fn kv_memory_read(
     memory_read(entry, completion, buffer, memory, id, head, queue, phase)
 }
 
-#[unsafe(no_mangle)]
-pub extern "C" fn kv_memory_write(
+pub fn kv_memory_write(
     entry: &[u8],
     completion: &mut [u8],
     buffer: &[u8],
@@ -149,8 +130,7 @@ pub extern "C" fn kv_memory_write(
     memory_write(entry, completion, buffer, memory, id, head, queue, phase)
 }
 
-#[unsafe(no_mangle)]
-pub extern "C" fn kv_memory_fill(
+pub fn kv_memory_fill(
     entry: &[u8],
     completion: &mut [u8],
     fill: u32,

@@ -1,0 +1,154 @@
+#![tactic(auto)]
+// The device's calls for C, in the order of `include/kv.h`: libmodule.a. A crate is a library or an archive, so what proves and calls one another stands
+// in `module`, and each export here says again what the function that it calls says.
+ghost use Rattle.std.specs.Prelude.{◌≡◌, [], ◌∷◌};
+ghost use Rattle.memory.specs.Memory.{memory};
+ghost use Rattle.formatting.specs.Formatting.{half, formatted, format};
+ghost use Rattle.wire.specs.Completion.{post};
+ghost use Rattle.commands.specs.Command.{lent, outcome, command};
+ghost use Rattle.room.specs.Room.{room};
+ghost use Rattle.identify.specs.Identify.{identified, identify, create};
+ghost use Rattle.quick.specs.Known.{known};
+ghost use Rattle.scratch.specs.Calls.{reading, writing, filling, slices, ended, memory_call};
+
+use quick::looks::Look;
+use room::polls::Room;
+
+#[unsafe(no_mangle)]
+pub extern "C" fn kv_format(
+    index: u32,
+    id: u32,
+    size: u64,
+    directory: &mut [u8],
+    values: &mut [u8],
+) -> u32
+    ensures { formatted result (memory directory.new values.new)
+        ≡ format (half index id size ∷ []) (memory directory.old values.old) }
+{
+    module::kv_format(index, id, size, directory, values)
+}
+
+#[unsafe(no_mangle)]
+pub extern "C" fn kv_format_two(
+    index1: u32,
+    id1: u32,
+    size1: u64,
+    index2: u32,
+    id2: u32,
+    size2: u64,
+    directory: &mut [u8],
+    values: &mut [u8],
+) -> u32
+    ensures { formatted result (memory directory.new values.new)
+        ≡ format (half index1 id1 size1 ∷ half index2 id2 size2 ∷ []) (memory directory.old values.old) }
+{
+    module::kv_format_two(index1, id1, size1, index2, id2, size2, directory, values)
+}
+
+#[unsafe(no_mangle)]
+pub extern "C" fn kv_format_fields(
+    fields: &[u8],
+    id: u32,
+    directory: &mut [u8],
+    values: &mut [u8],
+) -> u32
+    ensures { formatted result (memory directory.new values.new)
+        ≡ create fields.now id (memory directory.old values.old) }
+{
+    module::kv_format_fields(fields, id, directory, values)
+}
+
+#[unsafe(no_mangle)]
+pub extern "C" fn kv_command(
+    entry: &[u8],
+    completion: &mut [u8],
+    buffer: &mut [u8],
+    directory: &mut [u8],
+    values: &mut [u8],
+    head: u16,
+    queue: u16,
+    phase: u16,
+) -> u32
+    ensures { outcome result (lent completion.new buffer.new directory.new values.new)
+        ≡ command (post head queue phase) entry.now
+        (lent completion.old buffer.old directory.old values.old) }
+{
+    module::kv_command(
+        entry, completion, buffer, directory, values, head, queue, phase,
+    )
+}
+
+#[unsafe(no_mangle)]
+pub extern "C" fn kv_used(id: u32, directory: &[u8], values: &[u8]) -> Room
+    ensures { result ≡ room id (memory directory.now values.now) }
+{
+    module::kv_used(id, directory, values)
+}
+
+#[unsafe(no_mangle)]
+pub extern "C" fn kv_identify(page: &mut [u8], id: u32, directory: &[u8], values: &[u8]) -> u32
+    ensures { identified result page.new ≡ identify id page.old (memory directory.now values.now) }
+{
+    module::kv_identify(page, id, directory, values)
+}
+
+#[unsafe(no_mangle)]
+pub extern "C" fn kv_known(key: &[u8], id: u32, directory: &[u8], values: &[u8]) -> Look
+    ensures { result ≡ known key.now id (memory directory.now values.now) }
+{
+    module::kv_known(key, id, directory, values)
+}
+
+#[unsafe(no_mangle)]
+pub extern "C" fn kv_memory_read(
+    entry: &[u8],
+    completion: &mut [u8],
+    buffer: &mut [u8],
+    memory: &[u8],
+    id: u32,
+    head: u16,
+    queue: u16,
+    phase: u16,
+) -> u32
+    ensures { ended result (slices completion.new buffer.new memory.now)
+        ≡ memory_call reading (post head queue phase) id entry.now
+        (slices completion.old buffer.old memory.now) }
+{
+    module::kv_memory_read(entry, completion, buffer, memory, id, head, queue, phase)
+}
+
+#[unsafe(no_mangle)]
+pub extern "C" fn kv_memory_write(
+    entry: &[u8],
+    completion: &mut [u8],
+    buffer: &[u8],
+    memory: &mut [u8],
+    id: u32,
+    head: u16,
+    queue: u16,
+    phase: u16,
+) -> u32
+    ensures { ended result (slices completion.new buffer.now memory.new)
+        ≡ memory_call writing (post head queue phase) id entry.now
+        (slices completion.old buffer.now memory.old) }
+{
+    module::kv_memory_write(entry, completion, buffer, memory, id, head, queue, phase)
+}
+
+#[unsafe(no_mangle)]
+pub extern "C" fn kv_memory_fill(
+    entry: &[u8],
+    completion: &mut [u8],
+    fill: u32,
+    memory: &mut [u8],
+    id: u32,
+    head: u16,
+    queue: u16,
+    phase: u16,
+) -> u32
+    ensures { ended result (slices completion.new [] memory.new)
+        ≡ memory_call (filling fill) (post head queue phase) id entry.now
+        (slices completion.old [] memory.old) }
+{
+    module::kv_memory_fill(entry, completion, fill, memory, id, head, queue, phase)
+}
