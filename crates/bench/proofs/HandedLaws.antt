@@ -8,7 +8,7 @@ use native.Mathlib.Omega.{arith}
 use lib.ListN.{length, take, drop, length-append, length-take}
 use lib.Seq.{drop_at, take-append_seam}
 use borrow.Author.Tests.{le-ltb, le-leb}
-use Rattle.octets.specs.Octets.{part, number, bytes, put}
+use Rattle.octets.specs.Octets.{part, number, put}
 use Rattle.keys.specs.Keys.{Key}
 use Rattle.octets.proofs.PartLaws.{put_front, length_put}
 use Rattle.octets.proofs.NumberLaws.{number_bytes}
