@@ -14,7 +14,7 @@ use Rattle.store.specs.Maps.{used}
 use Rattle.store.specs.Namespace.{Namespace}
 use Rattle.store.proofs.NamespaceLaws.{Within as One, format_bounds}
 use Rattle.memory.specs.Namespaces.{held, at}
-use Rattle.memory.specs.Memory.{Memory, legal}
+use Rattle.memory.specs.Memory.{Memory}
 use Rattle.memory.proofs.NameLaws.{at_within}
 use Rattle.memory.proofs.ImageLaws.{Holds, legal_holds}
 use Rattle.maps.specs.declared.describes.Described.{Described}

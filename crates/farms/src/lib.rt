@@ -1,1 +1,2 @@
+#![tactic(auto)]
 // Definitions and theorems only: two farms in one memory.

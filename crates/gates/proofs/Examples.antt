@@ -14,7 +14,7 @@ use Rattle.quick.specs.Known.{record_at, compare, run_for, search_for, known, no
 use Rattle.module.specs.History.{Call}
 use Rattle.promises.specs.Histories.{begun, memory_after}
 use Rattle.promises.specs.Requests.{call}
-use Rattle.promises.proofs.Examples.{on_memory, start, start_two, two_begun, A, B, store, store_two}
+use Rattle.promises.proofs.Examples.{on_memory, start_two, two_begun, A, B, store, store_two}
 use Rattle.gates.specs.Looks.{SaysHistory, GoesBy, always, elsewhere, late, checking}
 use Rattle.gates.proofs.Looks.{says_legal, says_history, goes_by, unheld}
 

@@ -10,7 +10,7 @@ use Rattle.store.specs.Maps.{keys}
 use Rattle.store.specs.Namespace.{Namespace}
 use Rattle.store.proofs.RankLaws.{length_keys, has_present}
 use Rattle.memory.specs.Namespaces.{held, at}
-use Rattle.memory.specs.Memory.{Memory, legal}
+use Rattle.memory.specs.Memory.{Memory}
 use Rattle.memory.proofs.NameLaws.{at_id, at_within}
 use Rattle.memory.proofs.ImageLaws.{Holds, legal_holds}
 use Rattle.quick.specs.Search.{search_keys}

@@ -1,1 +1,2 @@
+#![tactic(auto)]
 // Definitions and theorems only: what a gate reader may rely on of the quick look.

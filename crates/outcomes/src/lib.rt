@@ -1,1 +1,2 @@
+#![tactic(auto)]
 // Definitions and theorems only: each contract leaves one outcome.

@@ -8,7 +8,7 @@ use Prim.Native.Nat.{ℕ, ◌%◌, ◌/◌, ◌≤◌}
 use native.Mathlib.Omega.{arith}
 use lib.ListN.{length}
 use borrow.Author.Tests.{eqb-true}
-use Rattle.octets.specs.Octets.{part, number, filled, zeros}
+use Rattle.octets.specs.Octets.{part, filled, zeros}
 use Rattle.keys.specs.Keys.{Key}
 use Rattle.octets.proofs.TestLaws.{contrary, both}
 use Rattle.wire.specs.declared.entries.Command.{Command}
@@ -21,7 +21,7 @@ use Rattle.memory.proofs.ImageLaws.{Holds, holds_back, holds_legal}
 use Rattle.rules.specs.Steps.{status_of}
 use Rattle.commands.specs.Answer.{answer}
 use Rattle.wire.specs.Completion.{Post, post}
-use Rattle.commands.specs.Command.{respond, command}
+use Rattle.commands.specs.Command.{respond}
 use Rattle.module.specs.History.{Call, commanding, run, succeeded}
 use Rattle.commands.proofs.AnswerLaws.{answer_status, unrefused}
 use Rattle.module.proofs.HistoryLaws.{call_number, call_status, call_dword0, call_buffer}

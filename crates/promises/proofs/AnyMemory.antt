@@ -12,7 +12,7 @@ use Rattle.memory.specs.Namespaces.{at}
 use Rattle.memory.specs.Memory.{Memory, namespaces_of, legal}
 use Rattle.rules.specs.Steps.{status_of}
 use Rattle.wire.specs.Completion.{Post}
-use Rattle.wire.proofs.CompletionLaws.{status_back}
+use Rattle.module.proofs.HistoryLaws.{status_back}
 use Rattle.commands.specs.Command.{respond, serve, Outcome, outcome}
 use Rattle.module.specs.History.{commanding, lend, run, status}
 use Rattle.rules.proofs.StepLaws.{status_byte}
@@ -42,4 +42,4 @@ module _ (m : Memory) (p : Post) (e c b : List ℕ) where
       let k = read_command e in
       let st = answer_status (legal m) s k b in
       ap (λ (o : Outcome). status o) (any_served n)
-      ∙ rw st (status_back p k.cid (status_of (legal m) s k (length b)) _ (status_byte (legal m) s k (length b)))
+      ∙ rw st (status_back p k (status_of (legal m) s k (length b)) _ (status_byte (legal m) s k (length b)))

@@ -12,12 +12,12 @@ use Rattle.store.specs.Namespace.{Namespace, with_pairs, fresh}
 use Rattle.store.proofs.NamespaceLaws.{Within as One}
 use Rattle.store.proofs.MapLaws.{map_ext}
 use Rattle.memory.specs.Namespaces.{total, slots_of, size_of, with}
-use Rattle.memory.specs.Memory.{needed, directory_of, values_of, Memory}
+use Rattle.memory.specs.Memory.{directory_of, values_of, Memory}
 use Rattle.memory.proofs.JoinLaws.{Each}
 use Rattle.memory.proofs.LimitLaws.{within_all}
 use Rattle.memory.proofs.NameLaws.{with_total}
 use Rattle.memory.proofs.ImageLaws.{Holds}
-use Rattle.formatting.specs.Formatting.{half, blanks, format}
+use Rattle.formatting.specs.Formatting.{half, blanks}
 use Rattle.commands.proofs.CommandLaws.{Kept}
 use Rattle.module.specs.History.{one, halves, begin, Call, formatting, commanding, asking, run, leaves, succeeded, told, stored, formats}
 use Rattle.module.proofs.HistoryLaws.{begin_refused, begin_holds, begin_kept, told_call, command_kept}

@@ -3,6 +3,8 @@ pub mod History
 pub mod Images
 pub mod Retrieve
 pub mod StoreAgain
+mod RoomAgain
+mod Corrected
 pub mod Answers
 pub mod Room
 pub mod NeverStored

@@ -15,14 +15,14 @@ use Rattle.keys.proofs.OrderLaws.{Rising}
 use Rattle.wire.specs.Entry.{key_of}
 use Rattle.store.specs.Maps.{keys}
 use Rattle.store.specs.Namespace.{Namespace}
-use Rattle.memory.specs.Namespaces.{held, at}
+use Rattle.memory.specs.Namespaces.{at}
 use Rattle.memory.specs.Memory.{Memory, memory, namespaces_of}
 use Rattle.memory.proofs.ImageLaws.{legal_holds}
 use Rattle.commands.specs.Command.{Outcome}
 use Rattle.formatting.specs.Formatting.{half}
 use Rattle.module.specs.History.{one, Call, run, leaves, succeeded, changed, told, status}
 use Rattle.farms.specs.Sides.{Device, real, next}
-use Rattle.promises.specs.Histories.{Start, begun, memory_after, writes}
+use Rattle.promises.specs.Histories.{Start, begun, memory_after}
 use Rattle.promises.specs.Requests.{Request, call, asked}
 use Rattle.promises.proofs.RequestLaws.{at_rising}
 use Rattle.promises.proofs.Examples.{on_map, on_memory, start, start_begun, request, A, B, store, vain}

@@ -11,7 +11,6 @@ use Rattle.octets.proofs.TestLaws.{Known, known, holds, fails}
 use Rattle.keys.proofs.OrderLaws.{Rising}
 use Rattle.wire.specs.declared.entries.Command.{Command}
 use Rattle.wire.specs.Entry.{key_of, is_store, is_retrieve, is_list, is_delete}
-use Rattle.wire.proofs.CompletionLaws.{status_back}
 use Rattle.store.specs.Maps.{Pair, keys, lookup}
 use Rattle.store.specs.Namespace.{Namespace, with_pairs}
 use Rattle.memory.specs.Namespaces.{held, at}
@@ -22,8 +21,8 @@ use Rattle.rules.proofs.StepLaws.{status_byte}
 use Rattle.commands.specs.Answer.{answer, pairs_after}
 use Rattle.commands.specs.Command.{completion_of, Outcome}
 use Rattle.commands.proofs.AnswerLaws.{answer_status}
-use Rattle.module.specs.History.{one, run, succeeded, changed, told, status}
-use Rattle.module.proofs.HistoryLaws.{told_call}
+use Rattle.module.specs.History.{run, succeeded, changed, told, status}
+use Rattle.module.proofs.HistoryLaws.{status_back, told_call}
 use Rattle.farms.specs.Sides.{real, next}
 use Rattle.farms.specs.Alone.{refusal}
 use Rattle.promises.specs.Histories.{writes}
@@ -104,7 +103,7 @@ said_alike j x s t b k f g = go (eqb (refusal x.entry x.completion) 0) f g
     no = returned (refusal x.entry x.completion) x.completion x.buffer
 
     read : (r : Namespace) → status_in (ok (status_on r x)) ≡ status_on r x
-    read r = status_back x.post (asked x).cid (status_on r x) 0 (status_byte true r (asked x) (length x.buffer))
+    read r = status_back x.post (asked x) (status_on r x) 0 (status_byte true r (asked x) (length x.buffer))
 
     is : status_on t x ≡ status_on (with_pairs s b.pairs) x
     is = ap (λ (r : Namespace). status_on r x) b.is

@@ -1,1 +1,2 @@
+#![tactic(auto)]
 // Definitions and theorems only: two readers whose calls come in no known order.

@@ -9,7 +9,7 @@ use lib.ListN.{length}
 use borrow.Author.Tests.{eqb-true, eqb-false, ne_eqb}
 use Rattle.octets.specs.Tests.{first_of}
 use Rattle.octets.proofs.TestLaws.{known, holds, fails, first_each}
-use Rattle.wire.proofs.CompletionLaws.{status_back}
+use Rattle.wire.proofs.CompletionLaws.{posted_status}
 use Rattle.ranges.specs.Request.{numbers, statuses}
 use Rattle.ranges.specs.declared.requests.Request.{Request}
 use Rattle.scratch.specs.Calls.{Task, reading, writing, filling, lacks, tried, effect, slices, ended, answered}
@@ -62,8 +62,8 @@ module _ (c : Call) (m : List ℕ) where
   done_numbered h e = rw (e, ne_eqb number 0 h)
 
   pub done_refused : (status ≡ 0 → ⊥) → ours c m ≡ ended 0 (answered c.post (asked c).cid (tried status c.buffer m)) → done (told c (ours c m)) ≡ false
-  done_refused h e = rw (e, status_back c.post (asked c).cid status 0 status_byte, ne_eqb status 0 h)
+  done_refused h e = rw (e, posted_status c.post (asked c).cid status 0 status_byte, ne_eqb status 0 h)
 
   pub done_passed : ours c m ≡ ended 0 (answered c.post (asked c).cid (effect c.task (asked c) c.buffer m)) → done (told c (ours c m)) ≡ true
   done_passed e =
-      rw (e, effect_status c.task (asked c) c.buffer m, status_back c.post (asked c).cid 0 0 (omega arith))
+      rw (e, effect_status c.task (asked c) c.buffer m, posted_status c.post (asked c).cid 0 0 (omega arith))

@@ -7,16 +7,15 @@ use Prim.Native.Nat.{ℕ, ◌+◌, ◌^◌, ◌<◌}
 use native.Mathlib.Omega.{arith}
 use lib.Dec.{eqb}
 use lib.ListN.{length, drop}
-use Rattle.octets.specs.Octets.{part, put, number}
+use Rattle.octets.specs.Octets.{part, put}
 use Rattle.octets.proofs.NumberLaws.{number_bytes}
 use Rattle.octets.proofs.TestLaws.{contrary}
 use Rattle.wire.specs.Entry.{read_command}
-use Rattle.wire.proofs.CompletionLaws.{status_back}
+use Rattle.module.proofs.HistoryLaws.{status_back}
 use Rattle.sheets.specs.Page.{page}
 use Rattle.sheets.proofs.PageLaws.{page_back}
 use Rattle.memory.specs.Namespaces.{at as named}
 use Rattle.rules.specs.Steps.{status_of}
-use Rattle.commands.specs.Command.{command}
 use Rattle.module.specs.History.{Call, formatting, commanding, asking, run, succeeded, status}
 use Rattle.promises.specs.Requests.{Request, call, asked}
 use Rattle.standins.specs.Devices.{real, Point, at, moved, goes, opened}
@@ -28,7 +27,7 @@ use Rattle.standins.proofs.StandIns.{invents_rejected, counts_rejected, empties_
 use Rattle.promises.proofs.Examples.{on_memory, start, A, store, list}
 
 pub saying_says : (st : ℕ) → st < 256 → Says st (saying st)
-saying_says st h before m p e c b done = status_back p (read_command e).cid st 0 h
+saying_says st h before m p e c b done = status_back p (read_command e) st 0 h
 
 pub saying_opens : (st : ℕ) → Opens (saying st)
 saying_opens st a ok = ok
@@ -56,7 +55,7 @@ resting_idles before m p e c b f n = go (eqb (run m (commanding p e c b)).number
   where
     go : (z : Bool) → eqb (run m (commanding p e c b)).number 0 ≡ z
         → (status (resting before m (commanding p e c b)) ≡ 0) × ((resting before m (commanding p e c b)).after.buffer ≡ b)
-    go true g = rw (f, g) (status_back p (read_command e).cid 0 0 (omega arith), refl)
+    go true g = rw (f, g) (status_back p (read_command e) 0 0 (omega arith), refl)
     go false g = absurd (contrary (sym g ∙ rw (rw (f, g) at n)))
 
 pub resting_posts : Posts resting

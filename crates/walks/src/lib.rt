@@ -1,1 +1,2 @@
+#![tactic(auto)]
 // Definitions and a theorem only: what a walk by List finds.
