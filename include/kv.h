@@ -1,4 +1,4 @@
-/* The record module's C interface: the device's side, in libmodule.a (`rt staticlib module`).
+/* The record module's C interface: the device's side, in libmodule.a (`bash tools/archives`).
  *
  * A slice passes as a pointer and a length; where the length is 0 the pointer is not followed and may be null, in every call. The
  * slices lent to one call must not overlap, and none is kept after the call.
@@ -125,7 +125,7 @@ uint32_t kv_memory_write(const uint8_t *entry, size_t entry_len, uint8_t *comple
 uint32_t kv_memory_fill(const uint8_t *entry, size_t entry_len, uint8_t *completion, size_t completion_len, uint32_t fill,
                         uint8_t *memory, size_t memory_len, uint32_t id, uint16_t head, uint16_t queue, uint16_t phase);
 
-/* ---- The host's side, in libhost.a (`rt staticlib host`). It needs no store: an entry is built, a completion, a List page and an Identify
+/* ---- The host's side, in libhost.a (`bash tools/archives`). It needs no store: an entry is built, a completion, a List page and an Identify
  * page are read. Each call gives a number as above. */
 
 /* Numbers of the host's side, with 1, 2 and 14. */

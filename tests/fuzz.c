@@ -4,7 +4,7 @@
 
 unsigned long long strtoull(const char *, char **, int);
 
-static uint64_t wanted = 260000;
+static uint64_t wanted = 280000;
 
 static uint32_t most_keys(void) {
     uint32_t most = 0;

@@ -1,7 +1,6 @@
 # What builds and runs a C program with the kit's own compiler, linker, loader and C library, on either kind of machine.
-kit=$(cd "$(dirname "$(rt doc)")/.." && pwd)
-own=$kit/on/$(uname -m)
-tools=$own/toolchain
+kit=$(dirname "$(rt doc)")
+tools=$kit/toolchain
 
 # compile FILE.c OUT.o [WORDS...]
 compile() {
@@ -11,10 +10,13 @@ compile() {
         -isystem "$(gcc -print-file-name=include)" -Iinclude "$@" -c "$in" -o "$out"
 }
 
-# link OUT FILES...
-link() { "$own/bin/rattle-link" --target x86_64-unknown-linux-gnu --toolchain "$tools" -o "$@"; }
+# link OUT FILES...: the linker tells what it linked, which is of use only where it fails
+link() {
+    local said
+    said=$("$kit/bin/rattle-link" --target x86_64-unknown-linux-gnu --toolchain "$tools" -o "$@" 2>&1) || { echo "$said" >&2; return 1; }
+}
 
-# run PROGRAM WORDS...: programs are for x86-64; on another processor the kit has an emulator beside its compiler
+# run PROGRAM WORDS...: programs are for x86-64; on another processor a kit may have an emulator beside its compiler
 run() {
     local emulator=$tools/bin/qemu-x86_64
     [ -x "$emulator" ] || emulator=
