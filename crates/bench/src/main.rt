@@ -10,8 +10,8 @@ ghost use Rattle.std.specs.Prelude.{◌≤◌, length};
 use module::kv_format;
 use std::io;
 use std::io::{BufRead, ErrorKind, Read, Write};
-use turns::{head_of, is_store, room_of, turn};
-use wire::entries::read_entry;
+use turns::{head_of, room_of, turn};
+use wire::entries::{Opcode, read_entry};
 
 // Where the input breaks off, the command is not run.
 fn cut(output: &mut impl Write) -> io::Result<bool> {
@@ -30,7 +30,7 @@ fn read_whole(input: &mut impl Read, buffer: &mut [u8]) -> io::Result<bool> {
 
 // A Store's data buffer is what follows its entry; that of the others stays zeroed.
 fn fill(input: &mut impl Read, opcode: u8, buffer: &mut [u8]) -> io::Result<bool> {
-    if !is_store(opcode) {
+    if Opcode::try_from(opcode) != Ok(Opcode::Store) {
         return Ok(true);
     }
     read_whole(input, buffer)

@@ -13,9 +13,8 @@ pub fn page_span(page: &[u8]) -> usize
         return 0;
     }
     let count = words::read32(page, 0);
-    let mut i = 0;
     let mut at = 4;
-    while i < count {
+    for _ in 0..count {
         if page.len() - at < 4 {
             return at;
         }
@@ -24,7 +23,6 @@ pub fn page_span(page: &[u8]) -> usize
             return at;
         }
         at += size;
-        i += 1;
     }
     at
 }

@@ -7,10 +7,10 @@ fn digit_of(n: u8) -> u8
     requires { n < 16 }
     ensures { result ≡ digit n }
 {
-    if n < 10 {
-        return b'0' + n;
+    match n {
+        0..=9 => b'0' + n,
+        _ => b'a' + (n - 10),
     }
-    b'a' + (n - 10)
 }
 
 fn write_byte(text: &mut [u8], at: usize, b: u8)
@@ -25,10 +25,8 @@ pub fn write_line(bytes: &[u8], text: &mut [u8], at: usize)
     requires { at + (2 * length bytes.now + 1) ≤ length text.old }
     ensures { text.new ≡ put at (line bytes.now) text.old }
 {
-    let mut i = 0;
-    while i < bytes.len() {
-        write_byte(text, at + 2 * i, bytes[i]);
-        i += 1;
+    for (i, b) in bytes.iter().enumerate() {
+        write_byte(text, at + 2 * i, *b);
     }
-    text[at + 2 * i] = b'\n';
+    text[at + 2 * bytes.len()] = b'\n';
 }

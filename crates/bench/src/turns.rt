@@ -1,33 +1,14 @@
 // One entry: its data buffer, the command, and what is printed of it.
-ghost use Rattle.std.specs.Prelude.{◌≡◌, ◌<◌, ◌≤◌, min, length};
+ghost use Rattle.std.specs.Prelude.{◌≡◌, ◌<◌, ◌≤◌, length};
 ghost use Rattle.octets.specs.Octets.{put};
-ghost use Rattle.wire.specs.Entry.{is_store, is_retrieve, is_list};
 ghost use Rattle.io.specs.Counts.{IsPrefixLen};
 ghost use Rattle.bench.specs.Turn.{head_after, room_of, gives, given_of, printed, turned, turn_of};
 
 use crate::spans::page_span;
 use crate::texts::write_line;
 use commands::commands::step;
-use wire::completions::read_completion;
-use wire::entries::{Command, LIST, RETRIEVE, STORE, read_entry};
-
-pub fn is_store(opcode: u8) -> bool
-    ensures { result ≡ is_store opcode }
-{
-    opcode == STORE
-}
-
-fn is_retrieve(opcode: u8) -> bool
-    ensures { result ≡ is_retrieve opcode }
-{
-    opcode == RETRIEVE
-}
-
-fn is_list(opcode: u8) -> bool
-    ensures { result ≡ is_list opcode }
-{
-    opcode == LIST
-}
+use wire::completions::{Post, read_completion};
+use wire::entries::{Command, Opcode, read_entry};
 
 // The entry counts itself, and `count` those before it.
 pub fn head_of(count: u64) -> u16
@@ -37,31 +18,25 @@ pub fn head_of(count: u64) -> u16
     ((count + 1) % 65536) as u16
 }
 
-fn least(a: u32, b: u32) -> u32
-    ensures { result ≡ min a b }
-{
-    if a < b { a } else { b }
-}
-
 // What a Store lends is what follows its entry.
 pub fn room_of(c: Command) -> usize
     ensures value { result ≡ room_of c }
     ensures upper_bound { result ≤ 4096 }
 {
-    if is_store(c.opcode) {
-        return least(c.amount, 4096) as usize;
+    if c.is(Opcode::Store) {
+        return c.amount.min(4096) as usize;
     }
-    if is_retrieve(c.opcode) | is_list(c.opcode) {
+    if c.is(Opcode::Retrieve) | c.is(Opcode::List) {
         return 4096;
     }
     0
 }
 
 // Only these print a second line.
-fn is_giving(opcode: u8, status: u8) -> bool
-    ensures { result ≡ gives opcode status }
+fn is_giving(c: Command, status: u8) -> bool
+    ensures { result ≡ gives c.opcode status }
 {
-    (is_retrieve(opcode) | is_list(opcode)) & (status == 0)
+    (c.is(Opcode::Retrieve) | c.is(Opcode::List)) & (status == 0)
 }
 
 fn given_of(c: Command, dword0: u32, buffer: &[u8]) -> usize
@@ -69,14 +44,13 @@ fn given_of(c: Command, dword0: u32, buffer: &[u8]) -> usize
     ensures value { result ≡ given_of c dword0 buffer.now }
     ensures upper_bound { result ≤ length buffer.now }
 {
-    if is_list(c.opcode) {
+    if c.is(Opcode::List) {
         return page_span(buffer);
     }
-    least(least(c.amount, dword0), buffer.len() as u32) as usize
+    c.amount.min(dword0).min(buffer.len() as u32) as usize
 }
 
-fn print(c: Command, completion: &[u8], buffer: &[u8], text: &mut [u8]) -> usize
-    requires completion_len { length completion.now ≡ 16 }
+fn print(c: Command, completion: &[u8; 16], buffer: &[u8], text: &mut [u8]) -> usize
     requires buffer_len_bound { length buffer.now ≤ 4096 }
     requires text_len { length text.old ≡ 8226 }
     ensures text_after { text.new ≡ put 0 (printed c completion.now buffer.now) text.old }
@@ -85,7 +59,7 @@ fn print(c: Command, completion: &[u8], buffer: &[u8], text: &mut [u8]) -> usize
 {
     let r = read_completion(completion);
     write_line(completion, text, 0);
-    if !is_giving(c.opcode, r.status) {
+    if !is_giving(c, r.status) {
         return 33;
     }
     let n = given_of(c, r.dword0, buffer);
@@ -94,14 +68,13 @@ fn print(c: Command, completion: &[u8], buffer: &[u8], text: &mut [u8]) -> usize
 }
 
 pub fn turn(
-    entry: &[u8],
+    entry: &[u8; 64],
     head: u16,
     buffer: &mut [u8],
     directory: &mut [u8],
     values: &mut [u8],
     text: &mut [u8],
 ) -> usize
-    requires len { length entry.now ≡ 64 }
     requires buffer_len_bound { length buffer.old ≤ 4096 }
     requires text_len { length text.old ≡ 8226 }
     ensures values_after { turned result text.new buffer.new directory.new values.new
@@ -110,6 +83,11 @@ pub fn turn(
 {
     let mut completion = [0u8; 16];
     let c = read_entry(entry);
-    step(c, &mut completion, buffer, directory, values, head, 1, 1);
+    let post = Post {
+        head,
+        queue: 1,
+        phase: 1,
+    };
+    step(c, &mut completion, buffer, directory, values, post);
     print(c, &completion, buffer, text)
 }

@@ -9,7 +9,7 @@ use checking::checks::Checked;
 use maps::looks::held_room;
 use memory::labels::write_counts;
 use store::finds::Found;
-use verbs::slots::{insert, remove, replace};
+use verbs::slots::Spot;
 
 // The used room without the pair that the key looked up holds.
 fn used_without(directory: &[u8], k: Checked, f: Found) -> u32
@@ -25,34 +25,29 @@ pub fn put(directory: &mut [u8], values: &mut [u8], k: Checked, f: Found, value:
     ensures { memory directory.new values.new
         ≡ image_with k.label.id (insert (found_key f) value.now) (memory directory.old values.old) }
 {
-    let start = k.start;
-    let end = k.end;
-    let base = k.base;
-    let stop = base + k.label.size as usize;
+    let stop = k.base + k.label.size as usize;
     let key = f.key;
     let len = f.len as usize;
     let used = used_without(directory, k, f) + (f.len as u32) + (value.len() as u32);
+    let spot = Spot {
+        id: k.label.id,
+        count: k.label.count,
+        total: k.total,
+        slot: f.slot,
+    };
     if f.held {
-        replace(
-            &mut directory[start..end],
-            &mut values[base..stop],
-            k.label.id,
-            k.label.count,
-            k.total,
-            f.slot,
+        spot.replace(
+            &mut directory[k.start..k.end],
+            &mut values[k.base..stop],
             &key[..len],
             value,
         );
         write_counts(directory, k.half, k.label.count, used);
         return;
     }
-    insert(
-        &mut directory[start..end],
-        &mut values[base..stop],
-        k.label.id,
-        k.label.count,
-        k.total,
-        f.slot,
+    spot.insert(
+        &mut directory[k.start..k.end],
+        &mut values[k.base..stop],
         &key[..len],
         value,
     );
@@ -64,18 +59,14 @@ pub fn erase(directory: &mut [u8], values: &mut [u8], k: Checked, f: Found)
     ensures { memory directory.new values.new
         ≡ image_with k.label.id (erase (found_key f)) (memory directory.old values.old) }
 {
-    let start = k.start;
-    let end = k.end;
-    let base = k.base;
-    let stop = base + k.label.size as usize;
+    let stop = k.base + k.label.size as usize;
     let used = used_without(directory, k, f);
-    remove(
-        &mut directory[start..end],
-        &mut values[base..stop],
-        k.label.id,
-        k.label.count,
-        k.total,
-        f.slot,
-    );
+    let spot = Spot {
+        id: k.label.id,
+        count: k.label.count,
+        total: k.total,
+        slot: f.slot,
+    };
+    spot.remove(&mut directory[k.start..k.end], &mut values[k.base..stop]);
     write_counts(directory, k.half, k.label.count - 1, used);
 }

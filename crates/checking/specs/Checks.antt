@@ -1,5 +1,5 @@
 -- What the check of the memory answers. Assumes nothing.
-use Rattle.std.specs.Prelude.{Bool, true, false, cond, List, [], ◌∷◌, ℕ, ◌+◌, ◌*◌, ◌≤◌, eqb, length}
+use Rattle.std.specs.Prelude.{Bool, cond, Option, Some, None, List, [], ◌∷◌, ℕ, ◌+◌, ◌*◌, ◌≤◌, eqb, length}
 use Rattle.octets.specs.Octets.{part, all_zero}
 use Rattle.octets.specs.Tests.{all}
 use Rattle.table.specs.Formats.{format_of}
@@ -9,18 +9,13 @@ use Rattle.store.specs.Records.{pairs_in}
 use Rattle.legal.specs.Checks.{part_legal}
 use Rattle.memory.specs.Namespaces.{total, slots_of, size_of}
 use Rattle.memory.specs.Memory.{Memory, label_of, label_at, records_in, values_in, namespace_at, namespaces_of, legal}
-use Rattle.memory.specs.Permits.{no_format, no_label}
 use Rattle.checking.specs.declared.checks.Checked.{Checked}
 
 -- ---- what is told of a namespace
 
-abbrev pub not_legal : Checked
-not_legal = record { ok = false; label = no_label; format = no_format; half = 0; start = 0; end = 0; base = 0; total = 0 }
-
 abbrev pub numbers_at : ℕ → ℕ → ℕ → Namespace → Checked
 numbers_at half start base s =
     record {
-      ok = true;
       label = label_of s;
       format = format_of s.index;
       half = half;
@@ -35,13 +30,14 @@ abbrev pub numbers_after : List Namespace → Namespace → Checked
 numbers_after a s = numbers_at (32 * length a) (64 + 32 * total slots_of a) (total size_of a) s
 
 -- of the one that n names, else of the first
-abbrev pub numbers_of : ℕ → List Namespace → Checked
-numbers_of n [] = not_legal
-numbers_of n (s ∷ []) = numbers_after [] s
-numbers_of n (s ∷ t ∷ ss) = cond (eqb t.id n) (numbers_after (s ∷ []) t) (numbers_after [] s)
+abbrev pub numbers_of : ℕ → List Namespace → Option Checked
+numbers_of n [] = None
+numbers_of n (s ∷ []) = Some (numbers_after [] s)
+numbers_of n (s ∷ t ∷ ss) = Some (cond (eqb t.id n) (numbers_after (s ∷ []) t) (numbers_after [] s))
 
-unfoldable pub checked : ℕ → Memory → Checked
-checked n m = cond (legal m) (numbers_of n (namespaces_of m)) not_legal
+-- of memory that is not legal nothing
+unfoldable pub checked : ℕ → Memory → Option Checked
+checked n m = cond (legal m) (numbers_of n (namespaces_of m)) None
 
 -- ---- one half by itself
 
@@ -60,6 +56,6 @@ half_tests half start base m =
     let vs = values_in h base m.values in
     all_zero (part (half + 20) 12 m.directory) ∷ part_legal h s vs ∷ eqb (used (pairs_in h.count s vs)) h.used ∷ []
 
-unfoldable pub half_checked : ℕ → ℕ → ℕ → Memory → Checked
+unfoldable pub half_checked : ℕ → ℕ → ℕ → Memory → Option Checked
 half_checked half start base m =
-    cond (all (half_tests half start base m)) (numbers_at half start base (namespace_at half start base m)) not_legal
+    cond (all (half_tests half start base m)) (Some (numbers_at half start base (namespace_at half start base m))) None

@@ -5,17 +5,15 @@ ghost use Rattle.checking.specs.Checks.{CanSee, half_checked, checked};
 
 use legal::checks::check_part;
 use memory::labels::{HALF, HEAD, read_label};
-use memory::permits::{NO_FORMAT, permit};
+use memory::permits::permit;
 use octets::runs::all_zero;
 use octets::words::read32;
 use store::namespaces::Label;
 use table::formats::Format;
 
 // A namespace's numbers, where its half, its records and its values begin, and the sum of the value lengths, so that nothing is found twice.
-// Of memory that is not legal all is 0.
 #[derive(Clone, Copy)]
 pub struct Checked {
-    pub ok: bool,
     pub label: Label,
     pub format: Format,
     pub half: usize,
@@ -25,46 +23,34 @@ pub struct Checked {
     pub total: u32,
 }
 
-const NOT_LEGAL: Checked = Checked {
-    ok: false,
-    label: Label {
-        id: 0,
-        index: 0,
-        size: 0,
-        count: 0,
-        used: 0,
-    },
-    format: NO_FORMAT,
-    half: 0,
-    start: 0,
-    end: 0,
-    base: 0,
-    total: 0,
-};
-
 // One namespace by itself, whose half, records and values begin at these places.
-fn check_half(directory: &[u8], values: &[u8], half: usize, start: usize, base: usize) -> Checked
+#[tactic(auto, using(crate::proofs::checks::Halves::half_laws))]
+fn check_half(
+    directory: &[u8],
+    values: &[u8],
+    half: usize,
+    start: usize,
+    base: usize,
+) -> Option<Checked>
     requires { CanSee half start base directory.now values.now }
     ensures { result ≡ half_checked half start base (memory directory.now values.now) }
 {
     let label = read_label(&directory[half..half + HALF]);
-    let p = permit(label.index, label.id, label.size as u64);
-    let end = start + 32 * p.format.maxkeys as usize;
+    let format = permit(label.index, label.id, label.size as u64).ok()?;
+    let end = start + 32 * format.maxkeys as usize;
     let stop = base + label.size as usize;
-    if (p.number != 0) | (directory.len() < end) | (values.len() < stop) {
-        return NOT_LEGAL;
+    if (directory.len() < end) | (values.len() < stop) {
+        return None;
     }
-    let format = p.format;
-    let sums = check_part(&directory[start..end], &values[base..stop], label, format);
-    if !sums.ok | (sums.used != label.used) {
-        return NOT_LEGAL;
+    let sums = check_part(&directory[start..end], &values[base..stop], label, format)?;
+    if sums.used != label.used {
+        return None;
     }
     // last, as the pass over the records is shorter code then
     if !all_zero(&directory[half + 20..half + 32]) {
-        return NOT_LEGAL;
+        return None;
     }
-    Checked {
-        ok: true,
+    Some(Checked {
         label,
         format,
         half,
@@ -72,39 +58,37 @@ fn check_half(directory: &[u8], values: &[u8], half: usize, start: usize, base: 
         end,
         base,
         total: sums.total,
-    }
+    })
 }
 
 // Every content and every length of the slices has its answer. Bytes past the needed part are not read. An empty second half has id 0, and
-// no namespace has that. Of two the answer is the one that the id names, else the first.
-pub fn check(directory: &[u8], values: &[u8], id: u32) -> Checked
+// no namespace has that. Of two the answer is the one that the id names, else the first. Each is looked at where it lies: `?` would copy it.
+#[tactic(auto, using(crate::proofs::checks::Both::both_laws), unfolding(octets::specs::Octets::part))]
+pub fn check(directory: &[u8], values: &[u8], id: u32) -> Option<Checked>
     ensures { result ≡ checked id (memory directory.now values.now) }
 {
     if directory.len() < HEAD {
-        return NOT_LEGAL;
+        return None;
     }
     let first = check_half(directory, values, 0, HEAD, 0);
-    if !first.ok {
-        return NOT_LEGAL;
-    }
+    let Some(one) = &first else {
+        return None;
+    };
     if read32(directory, HALF) == 0 {
         if !all_zero(&directory[HALF..HEAD]) {
-            return NOT_LEGAL;
+            return None;
         }
         return first;
     }
-    let second = check_half(
-        directory,
-        values,
-        HALF,
-        first.end,
-        first.label.size as usize,
-    );
-    let sizes = first.label.size as u64 + second.label.size as u64;
-    if !second.ok | (first.label.id == second.label.id) | (65536 < sizes) {
-        return NOT_LEGAL;
+    let second = check_half(directory, values, HALF, one.end, one.label.size as usize);
+    let Some(other) = &second else {
+        return None;
+    };
+    let sizes = one.label.size as u64 + other.label.size as u64;
+    if (one.label.id == other.label.id) | (65536 < sizes) {
+        return None;
     }
-    if second.label.id == id {
+    if other.label.id == id {
         return second;
     }
     first

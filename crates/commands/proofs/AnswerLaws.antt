@@ -7,8 +7,8 @@ use native.Mathlib.Omega.{arith}
 use lib.ListN.{length, take, length-take}
 use lib.Dec.{leb, eqb}
 use borrow.Author.Tests.{leb-false, eqb-true}
-use Rattle.keys.specs.declared.orders.Order.{Order}
-use Rattle.keys.specs.declared.orders.Order.TheVariants.{Less, Equal, Greater}
+use Rattle.std.specs.declared.cmp.Ordering.{Ordering}
+use Rattle.std.specs.declared.cmp.Ordering.TheVariants.{Less, Equal, Greater}
 use Rattle.keys.specs.Keys.{Key, order}
 use Rattle.octets.proofs.TestLaws.{known, holds, fails}
 use Rattle.wire.specs.declared.entries.Command.{Command}
@@ -43,7 +43,7 @@ admitted_value : (i : ℕ) (k : Key) (m : List Pair) → Admitted i m → length
 admitted_value i k [] a = omega arith
 admitted_value i k (p ∷ m) a = go (order k p.key) refl (admitted_value i k m a.3)
   where
-    go : (o : Order) → order k p.key ≡ o → length (value_of k m) ≤ (format_of i).valuemax → length (value_of k (p ∷ m)) ≤ (format_of i).valuemax
+    go : (o : Ordering) → order k p.key ≡ o → length (value_of k m) ≤ (format_of i).valuemax → length (value_of k (p ∷ m)) ≤ (format_of i).valuemax
     go Less e r = rw e (omega arith)
     go Equal e r = rw e a.2
     go Greater e r = rw e r

@@ -8,7 +8,7 @@ use changes::pairs::{erase, put};
 use checking::checks::Checked;
 use maps::looks::{hand_over, list_keys};
 use store::finds::Found;
-use wire::entries::{Command, DELETE, LIST, RETRIEVE, STORE};
+use wire::entries::{Command, Opcode};
 
 // The answer is Dword 0. A Store's value is the data buffer's first bytes.
 pub fn perform(
@@ -23,20 +23,21 @@ pub fn perform(
     ensures { response 0 result buffer.new directory.new values.new
         ≡ respond c buffer.old (memory directory.old values.old) }
 {
-    if c.opcode == STORE {
-        let amount = c.amount as usize;
-        put(directory, values, k, f, &buffer[..amount]);
-        return 0;
+    match Opcode::try_from(c.opcode).unwrap() {
+        Opcode::Store => {
+            let amount = c.amount as usize;
+            put(directory, values, k, f, &buffer[..amount]);
+            0
+        }
+        Opcode::Retrieve => hand_over(directory, values, k, f, buffer, c.amount),
+        Opcode::List => {
+            list_keys(directory, k, f, buffer, c.amount);
+            0
+        }
+        Opcode::Delete => {
+            erase(directory, values, k, f);
+            0
+        }
+        Opcode::Exist => 0,
     }
-    if c.opcode == RETRIEVE {
-        return hand_over(directory, values, k, f, buffer, c.amount);
-    }
-    if c.opcode == LIST {
-        list_keys(directory, k, f, buffer, c.amount);
-        return 0;
-    }
-    if c.opcode == DELETE {
-        erase(directory, values, k, f);
-    }
-    0
 }

@@ -17,8 +17,7 @@ use Rattle.memory.specs.Namespaces.{held, at}
 use Rattle.memory.specs.Memory.{Memory}
 use Rattle.memory.proofs.NameLaws.{at_within}
 use Rattle.memory.proofs.ImageLaws.{Holds, legal_holds}
-use Rattle.maps.specs.declared.describes.Described.{Described}
-use Rattle.maps.specs.Describe.{described, undescribed}
+use Rattle.maps.specs.Describe.{Described, described, undescribed}
 use Rattle.maps.proofs.DescribeLaws.{describe_held}
 use Rattle.formatting.specs.Formatting.{blanks}
 use Rattle.identify.specs.Identify.{limits, page_of, identify_of, identify}

@@ -16,8 +16,7 @@ use Rattle.memory.proofs.JoinLaws.{Each}
 use Rattle.memory.proofs.LimitLaws.{Within}
 use Rattle.memory.proofs.ImageLaws.{Holds, over_holds}
 use Rattle.formatting.specs.declared.measures.Half.{Half}
-use Rattle.formatting.specs.declared.measures.Measured.{Measured}
-use Rattle.formatting.specs.Formatting.{blanks, permit_all, last_rows, format_steps, format, measured}
+use Rattle.formatting.specs.Formatting.{blanks, permit_all, last_rows, format_steps, format}
 
 -- numbers 3 to 5 let each pass
 abbrev pub Allowed : List Half → Type 0
@@ -81,15 +80,3 @@ module _ (hs : List Half) (m : Memory) where
   pub format_holds : Few hs → (format hs m).number ≡ 0 → Holds (blanks hs) (format hs m).after
   unfolding format
   format_holds few e = rw e (over_holds (blanks hs) m (blanks_within hs (length m.directory) (length m.values) few e))
-
--- ---- what a measure says that refuses nothing
-
-pub record Measures (hs : List Half) (d v : ℕ) (r : Measured) : Type 0 where
-  pub formattable : Formattable hs d v
-  pub end : r.end ≡ needed (blanks hs)
-
-pub measures : (hs : List Half) (d v : ℕ) (r : Measured) → r ≡ measured hs d v → r.number ≡ 0 → Measures hs d v r
-unfolding measured
-measures hs d v r e z =
-    let n : first_of (format_steps hs d v) ≡ 0 = rw e at z in
-    record { formattable = formattable hs d v n; end = rw (e, n) }

@@ -1,6 +1,7 @@
 -- Formatting for one namespace or for two: numbers 3 to 6 and 19, and the image of empty maps over the needed part of both slices.
 -- Assumes nothing.
-use Rattle.std.specs.Prelude.{cond, not, ◌||◌, List, [], ◌∷◌, ◌++◌, ℕ, ◌+◌, ◌-◌, ◌*◌, ◌≤◌, length, ltb, eqb}
+use Rattle.std.specs.Prelude.{cond, not, ◌||◌, Option, List, [], ◌∷◌, ◌++◌, ℕ, ◌-◌, ◌≤◌, length, ltb, eqb}
+use Rattle.std.specs.Option.{option_to_list}
 use Rattle.octets.specs.Octets.{put, zeros}
 use Rattle.octets.specs.Tests.{Row, row, first_of}
 use Rattle.store.specs.declared.namespaces.Label.{Label}
@@ -8,10 +9,14 @@ use Rattle.store.specs.Namespace.{Namespace, fresh, permit_steps}
 use Rattle.memory.specs.Namespaces.{total, size_of, apart}
 use Rattle.memory.specs.Memory.{Memory, memory, needed, needed_values, half_of, image_over}
 use Rattle.formatting.specs.declared.measures.Half.{Half}
-use Rattle.formatting.specs.declared.measures.Measured.{Measured}
+use Rattle.formatting.specs.declared.measures.Reach.{Reach}
 
 abbrev pub half : ℕ → ℕ → ℕ → Half
 half i id n = record { index = i; id = id; size = n }
+
+-- of one namespace, or of two
+abbrev pub halves : Half → Option Half → List Half
+halves h o = h ∷ option_to_list o
 
 -- what is asked for, with empty maps
 abbrev pub blanks : List Half → List Namespace
@@ -47,15 +52,9 @@ format hs m =
 
 -- ---- what the code finds and writes
 
-unfoldable pub measured : List Half → ℕ → ℕ → Measured
-measured hs d v =
-    let k = first_of (format_steps hs d v) in
-    record { number = k; end = cond (eqb k 0) (needed (blanks hs)) 0 }
-
--- with so many keys and bytes of values
-unfoldable pub room_measured : ℕ → ℕ → ℕ → ℕ → Measured
-room_measured keys sizes d v =
-    cond (ltb d (64 + 32 * keys) || ltb v sizes) (record { number = 6; end = 0 }) (record { number = 0; end = 64 + 32 * keys })
+-- the ends of the needed parts
+abbrev pub reach_of : List Half → Reach
+reach_of hs = record { records = needed (blanks hs); values = needed_values (blanks hs) }
 
 pub record CanBlank (end stop d v : ℕ) : Type 0 where
   pub head : 64 ≤ end

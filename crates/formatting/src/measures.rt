@@ -1,9 +1,15 @@
-// What a formatting needs: numbers 3 to 6 and 19, and how far the records reach.
-ghost use Rattle.std.specs.Prelude.{◌≡◌, [], ◌∷◌, ◌≤◌};
-ghost use Rattle.formatting.specs.Formatting.{measured, room_measured};
+// What a formatting needs: numbers 3 to 6 and 19, and how far both slices are written.
+ghost use Rattle.std.specs.Prelude.{◌≡◌, ◌≤◌, IfOk};
+ghost use Rattle.refusals.specs.Refusals.{number_in};
+ghost use Rattle.octets.specs.Tests.{first_of};
+ghost use Rattle.store.specs.Namespace.{fresh};
+ghost use Rattle.memory.specs.Memory.{label_of};
+ghost use Rattle.formatting.specs.Formatting.{halves, format_steps, reach_of};
 
 use memory::labels::HEAD;
 use memory::permits::permit;
+use refusals::numbers::Refusal;
+use store::namespaces::Label;
 
 // What is asked for one namespace.
 #[derive(Clone, Copy)]
@@ -13,65 +19,57 @@ pub struct Half {
     pub size: u64,
 }
 
-// A house number and, where it is 0, the end of the records in the directory.
+impl Half {
+    // With no keys.
+    pub fn label(self) -> Label
+        requires { self.size ≤ 65536 }
+        ensures { result ≡ label_of (fresh self.index self.id self.size) }
+    {
+        Label {
+            id: self.id,
+            index: self.index,
+            size: self.size as u32,
+            count: 0,
+            used: 0,
+        }
+    }
+}
+
+// The ends of the records in the directory and of the values in the value slice.
 #[derive(Clone, Copy)]
-pub struct Measured {
-    pub number: u32,
-    pub end: usize,
+pub struct Reach {
+    pub records: usize,
+    pub values: usize,
 }
 
-// A refusal has no end.
-fn refused(number: u32) -> Measured
-    ensures { result ≡ record { number = number; end = 0 } }
+// Of slices with these lengths. The sizes are summed once each of them is known to be small.
+pub fn measure(
+    first: Half,
+    second: Option<Half>,
+    directory: usize,
+    values: usize,
+) -> Result<Reach, Refusal>
+    ensures number { number_in result ≡ first_of (format_steps (halves first second) directory values) }
+    ensures reach { IfOk result (λ r. r ≡ reach_of (halves first second)) }
 {
-    Measured { number, end: 0 }
-}
-
-// Number 6, of slices with these lengths, for a number of keys and bytes of values.
-fn measure_room(keys: u32, sizes: u64, directory: usize, values: usize) -> Measured
-    requires { keys ≤ 2048 }
-    ensures { result ≡ room_measured keys sizes directory values }
-{
-    let end = HEAD + 32 * keys as usize;
-    if (directory < end) | ((values as u64) < sizes) {
-        return refused(6);
+    let mut keys = permit(first.index, first.id, first.size)?.maxkeys;
+    let mut sizes = first.size;
+    if let Some(second) = second {
+        keys += permit(second.index, second.id, second.size)?.maxkeys;
+        if first.id == second.id {
+            return Err(Refusal::EqualIds);
+        }
+        sizes += second.size;
+        if 65536 < sizes {
+            return Err(Refusal::Size);
+        }
     }
-    Measured { number: 0, end }
-}
-
-pub fn measure(half: Half, directory: usize, values: usize) -> Measured
-    ensures { result ≡ measured (half ∷ []) directory values }
-{
-    let p = permit(half.index, half.id, half.size);
-    if p.number != 0 {
-        return refused(p.number);
+    let records = HEAD + 32 * keys as usize;
+    if (directory < records) | ((values as u64) < sizes) {
+        return Err(Refusal::SliceLength);
     }
-    measure_room(p.format.maxkeys, half.size, directory, values)
-}
-
-// The sizes are summed once each of them is known to be small.
-pub fn measure_two(first: Half, second: Half, directory: usize, values: usize) -> Measured
-    ensures { result ≡ measured (first ∷ second ∷ []) directory values }
-{
-    let p = permit(first.index, first.id, first.size);
-    if p.number != 0 {
-        return refused(p.number);
-    }
-    let q = permit(second.index, second.id, second.size);
-    if q.number != 0 {
-        return refused(q.number);
-    }
-    if first.id == second.id {
-        return refused(19);
-    }
-    let sizes = first.size + second.size;
-    if 65536 < sizes {
-        return refused(5);
-    }
-    measure_room(
-        p.format.maxkeys + q.format.maxkeys,
-        sizes,
-        directory,
-        values,
-    )
+    Ok(Reach {
+        records,
+        values: sizes as usize,
+    })
 }

@@ -22,7 +22,11 @@ numbered n c =
 abbrev pub blank : Completion
 blank = record { dword0 = 0; head = 0; queue = 0; cid = 0; phase = 0; status = 0; kind = 0 }
 
--- number 2, and zeros beside it
+-- zeros beside a number
+abbrev pub unread : ℕ → Reply
+unread n = numbered n blank
+
+-- number 2
 unfoldable pub reply : List ℕ → Reply
 reply s =
     let first = first_of (not_completion s ∷ []) in

@@ -1,48 +1,37 @@
 // The builder of entries.
 ghost use Rattle.std.specs.Prelude.{◌≡◌, ◌≤◌, length};
-ghost use Rattle.wire.specs.Entry.{known};
+ghost use Rattle.refusals.specs.Refusals.{number_in};
+ghost use Rattle.wire.specs.Entry.{byte_of};
 ghost use Rattle.host.specs.Build.{amount_of, options_of, command, built, build};
 
 use keys::orders::pad;
+use refusals::numbers::{Refusal, number};
 use wire::entries;
-use wire::entries::{Command, DELETE, EXIST, LIST, RETRIEVE, STORE};
-
-fn is_known(opcode: u8) -> bool
-    ensures { result ≡ known opcode }
-{
-    (opcode == STORE)
-        | (opcode == RETRIEVE)
-        | (opcode == LIST)
-        | (opcode == DELETE)
-        | (opcode == EXIST)
-}
+use wire::entries::{Command, Opcode};
 
 // Delete and Exist have no Dword 10.
-fn amount_of(opcode: u8, dword10: u32) -> u32
-    ensures { result ≡ amount_of opcode dword10 }
+fn amount_of(opcode: Opcode, dword10: u32) -> u32
+    ensures { result ≡ amount_of (byte_of opcode) dword10 }
 {
-    if (opcode == DELETE) | (opcode == EXIST) {
-        return 0;
+    match opcode {
+        Opcode::Store | Opcode::Retrieve | Opcode::List => dword10,
+        Opcode::Delete | Opcode::Exist => 0,
     }
-    dword10
 }
 
 // Only a Store has options.
-fn options_of(opcode: u8, options: u8) -> u8
-    ensures { result ≡ options_of opcode options }
+fn options_of(opcode: Opcode, options: u8) -> u8
+    ensures { result ≡ options_of (byte_of opcode) options }
 {
-    if opcode == STORE {
-        return options;
-    }
-    0
+    if opcode == Opcode::Store { options } else { 0 }
 }
 
-fn command_of(opcode: u8, cid: u16, nsid: u32, key: &[u8], dword10: u32, options: u8) -> Command
+fn command_of(opcode: Opcode, cid: u16, nsid: u32, key: &[u8], dword10: u32, options: u8) -> Command
     requires { length key.now ≤ 16 }
-    ensures { result ≡ command opcode cid nsid key.now dword10 options }
+    ensures { result ≡ command (byte_of opcode) cid nsid key.now dword10 options }
 {
     Command {
-        opcode,
+        opcode: opcode as u8,
         fused: 0,
         cid,
         nsid,
@@ -51,6 +40,30 @@ fn command_of(opcode: u8, cid: u16, nsid: u32, key: &[u8], dword10: u32, options
         options: options_of(opcode, options),
         amount: amount_of(opcode, dword10),
     }
+}
+
+fn build(
+    entry: &mut [u8],
+    opcode: u8,
+    cid: u16,
+    nsid: u32,
+    key: &[u8],
+    dword10: u32,
+    options: u8,
+) -> Result<(), Refusal>
+    ensures { built (number_in result) entry.new ≡ build entry.old opcode cid nsid key.now dword10 options }
+{
+    let Some(entry) = entry.as_mut_array::<64>() else {
+        return Err(Refusal::EntryLength);
+    };
+    if 16 < key.len() {
+        return Err(Refusal::BuildKey);
+    }
+    let Ok(opcode) = Opcode::try_from(opcode) else {
+        return Err(Refusal::BuildOpcode);
+    };
+    entries::write_entry(entry, command_of(opcode, cid, nsid, key, dword10, options));
+    Ok(())
 }
 
 // Numbers 1, 12, 13.
@@ -65,15 +78,5 @@ pub fn kv_build(
 ) -> u32
     ensures { built result entry.new ≡ build entry.old opcode cid nsid key.now dword10 options }
 {
-    if entry.len() != 64 {
-        return 1;
-    }
-    if 16 < key.len() {
-        return 12;
-    }
-    if !is_known(opcode) {
-        return 13;
-    }
-    entries::write_entry(entry, command_of(opcode, cid, nsid, key, dword10, options));
-    0
+    number(build(entry, opcode, cid, nsid, key, dword10, options))
 }

@@ -1,16 +1,18 @@
 // The reader of List pages.
 ghost use Rattle.std.specs.Prelude.{◌≡◌, ◌≤◌, length};
+ghost use Rattle.refusals.specs.Refusals.{number_of};
 ghost use Rattle.sheets.specs.Page.{read_page};
-ghost use Rattle.host.specs.PageKey.{refusal, given, page_key};
+ghost use Rattle.host.specs.PageKey.{refusal, given, told, page_key};
 
 use keys::orders::pad;
 use octets::words;
+use refusals::numbers::Refusal;
 use sheets::entries::read_page_entry;
 use sheets::pages::page_entry_size;
 
 // A house number, the count of a page's keys, and one of them.
 #[repr(C)]
-#[derive(Clone, Copy)]
+#[derive(Clone, Copy, Default)]
 pub struct PageKey {
     pub number: u32,
     pub count: u32,
@@ -19,14 +21,14 @@ pub struct PageKey {
 }
 
 // Beside a number there is nothing else.
-fn refused(number: u32) -> PageKey
-    ensures { result ≡ refusal number }
-{
-    PageKey {
-        number,
-        count: 0,
-        len: 0,
-        key: [0u8; 16],
+impl From<Refusal> for PageKey {
+    ghost from_gives = { λ r k. k ≡ refusal (number_of r) };
+
+    fn from(refusal: Refusal) -> PageKey {
+        PageKey {
+            number: refusal.number(),
+            ..PageKey::default()
+        }
     }
 }
 
@@ -43,37 +45,30 @@ fn page_key(count: u32, key: &[u8]) -> PageKey
 }
 
 // A key is given of a page that is right to its end.
+fn find_key(page: &[u8], ordinal: u32) -> Result<PageKey, Refusal>
+    ensures { told result ≡ page_key (read_page page.now) ordinal }
+{
+    if page.len() < 4 {
+        return Err(Refusal::PageLength);
+    }
+    let count = words::read32(page, 0);
+    let mut rest = &page[4..];
+    // the key read last and the key asked for: empty while there is none
+    let mut last = &page[..0];
+    let mut asked = &page[..0];
+    for i in 0..count {
+        let len = read_page_entry(rest, last)?;
+        last = &rest[2..2 + len];
+        rest = &rest[page_entry_size(len)..];
+        if i == ordinal {
+            asked = last;
+        }
+    }
+    Ok(page_key(count, asked))
+}
+
 pub fn kv_read_page(page: &[u8], ordinal: u32) -> PageKey
     ensures { result ≡ page_key (read_page page.now) ordinal }
 {
-    if page.len() < 4 {
-        return refused(7);
-    }
-    let count = words::read32(page, 0);
-    let mut i = 0;
-    let mut at = 4;
-    // the key read last and the key asked for, as parts of the page: empty while there is none
-    let mut last = 4;
-    let mut last_end = 4;
-    let mut asked = 4;
-    let mut asked_end = 4;
-    while i < count {
-        let e = read_page_entry(&page[at..], &page[last..last_end]);
-        let number = e.number;
-        let len = e.len;
-        if number != 0 {
-            return refused(number);
-        }
-        last = at + 2;
-        last_end = last + len;
-        at += page_entry_size(len);
-        // the choice stands last in a turn, so that its two ways do not meet before the loop's head
-        let here = i;
-        i += 1;
-        if here == ordinal {
-            asked = last;
-            asked_end = last_end;
-        }
-    }
-    page_key(count, &page[asked..asked_end])
+    find_key(page, ordinal).unwrap_or_else(PageKey::from)
 }

@@ -1,12 +1,14 @@
 // The reader of completions.
 ghost use Rattle.std.specs.Prelude.{◌≡◌};
-ghost use Rattle.host.specs.Reply.{reply};
+ghost use Rattle.refusals.specs.Refusals.{number_of};
+ghost use Rattle.host.specs.Reply.{unread, reply};
 
+use refusals::numbers::Refusal;
 use wire::completions;
 
 // A house number and the completion's fields; kind is the status code type, `type` being a word of the language.
 #[repr(C)]
-#[derive(Clone, Copy)]
+#[derive(Clone, Copy, Default)]
 pub struct Reply {
     pub number: u32,
     pub dword0: u32,
@@ -18,22 +20,24 @@ pub struct Reply {
     pub kind: u8,
 }
 
-// Number 2.
+// Beside a number there is nothing else.
+impl From<Refusal> for Reply {
+    ghost from_gives = { λ r a. a ≡ unread (number_of r) };
+
+    fn from(refusal: Refusal) -> Reply {
+        Reply {
+            number: refusal.number(),
+            ..Reply::default()
+        }
+    }
+}
+
 pub fn kv_read_completion(completion: &[u8]) -> Reply
     ensures { result ≡ reply completion.now }
 {
-    if completion.len() != 16 {
-        return Reply {
-            number: 2,
-            dword0: 0,
-            head: 0,
-            queue: 0,
-            cid: 0,
-            phase: 0,
-            status: 0,
-            kind: 0,
-        };
-    }
+    let Some(completion) = completion.as_array::<16>() else {
+        return Reply::from(Refusal::CompletionLength);
+    };
     let c = completions::read_completion(completion);
     Reply {
         number: 0,

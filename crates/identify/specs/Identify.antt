@@ -6,8 +6,7 @@ use Rattle.sheets.specs.Identify.{identify_page, not_page, not_fields, asked_ind
 use Rattle.table.specs.declared.formats.Format.{Format}
 use Rattle.table.specs.Formats.{format_of}
 use Rattle.memory.specs.Memory.{Memory}
-use Rattle.maps.specs.declared.describes.Described.{Described}
-use Rattle.maps.specs.Describe.{describe}
+use Rattle.maps.specs.Describe.{Described, describe}
 use Rattle.formatting.specs.declared.measures.Half.{Half}
 use Rattle.formatting.specs.Formatting.{half, Formatted, formatted, format}
 

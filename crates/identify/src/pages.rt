@@ -1,17 +1,19 @@
 // The Identify page, written field by field into the lent slice.
 ghost use Rattle.std.specs.Prelude.{◌≡◌, ◌+◌, ◌≤◌, length};
 ghost use Rattle.octets.specs.Octets.{put};
-ghost use Rattle.sheets.specs.Identify.{descriptor, descriptors, front};
+ghost use Rattle.sheets.specs.Identify.{descriptor, descriptors, front, identify_page};
 ghost use Rattle.memory.specs.Memory.{memory};
-ghost use Rattle.identify.specs.Identify.{limits_of, limits, page_of, identified, identify};
+ghost use Rattle.refusals.specs.Refusals.{number_in};
+ghost use Rattle.identify.specs.Identify.{limits_of, limits, identified, identify};
 
-use maps::describes::{Described, describe};
+use maps::describes::{Description, describe};
 use octets::runs::clear;
 use octets::words::{write8, write16, write32};
+use refusals::numbers::Refusal;
 use table::formats::{Format, format_at};
 
 // Size and used room have eight bytes in the page, and need no more than four.
-fn write_front(page: &mut [u8], d: Described)
+fn write_front(page: &mut [u8], d: Description)
     requires { 72 ≤ length page.old }
     ensures { page.new ≡ put 0 (front d.size d.used 16 d.index) page.old }
 {
@@ -33,20 +35,19 @@ fn write_descriptor(page: &mut [u8], at: usize, f: Format)
     write32(page, at + 12, 0);
 }
 
+#[tactic(auto, using(octets::proofs::PartLaws::put_none, crate::proofs::pages::Writes::descriptors_more))]
 fn write_descriptors(page: &mut [u8])
     requires { 328 ≤ length page.old }
     ensures { page.new ≡ put 72 (descriptors limits 16) page.old }
 {
-    let mut i: u32 = 0;
-    while i < 16 {
+    for i in 0..16u32 {
         write_descriptor(page, 72 + 16 * i as usize, format_at(i));
-        i += 1;
     }
 }
 
-fn write_page(page: &mut [u8], d: Described)
+fn write_page(page: &mut [u8], d: Description)
     requires { length page.old ≡ 4096 }
-    ensures { page.new ≡ page_of d }
+    ensures { page.new ≡ identify_page d.size d.used d.index limits 16 }
 {
     write_front(page, d);
     write_descriptors(page);
@@ -54,16 +55,14 @@ fn write_page(page: &mut [u8], d: Described)
 }
 
 // Number 14, then 18 and 23.
-pub fn identify(page: &mut [u8], id: u32, directory: &[u8], values: &[u8]) -> u32
-    ensures { identified result page.new ≡ identify id page.old (memory directory.now values.now) }
+pub fn identify(page: &mut [u8], id: u32, directory: &[u8], values: &[u8]) -> Result<(), Refusal>
+    ensures { identified (number_in result) page.new
+        ≡ identify id page.old (memory directory.now values.now) }
 {
     if page.len() != 4096 {
-        return 14;
+        return Err(Refusal::BytesLength);
     }
-    let d = describe(id, directory, values);
-    if d.number != 0 {
-        return d.number;
-    }
+    let d = describe(id, directory, values)?;
     write_page(page, d);
-    0
+    Ok(())
 }

@@ -1,47 +1,33 @@
 -- Keys are lists of bytes, in the order of a dictionary: the first byte that differs decides, and a key that runs out is the lower one.
 -- A key in sixteen bytes is also two numbers and a length. Assumes nothing.
-use Rattle.std.specs.Prelude.{◌≡◌, refl, ℕ, ◌+◌, ◌-◌, ◌*◌, ◌%◌, ◌^◌, ◌≤◌, Bool, true, false, cond, ◌&&◌, List, [], ◌∷◌, ltb, eqb, drop}
+use Rattle.std.specs.Prelude.{◌≡◌, refl, ℕ, ◌+◌, ◌-◌, ◌*◌, ◌%◌, ◌^◌, ◌≤◌, Bool, true, cond, ◌&&◌, List, [], ◌∷◌, ltb, eqb, drop}
+use Rattle.std.specs.Ordering.{nat_cmp, ordering_then, is_lt}
+use Rattle.std.specs.declared.cmp.Ordering.{Ordering}
+use Rattle.std.specs.declared.cmp.Ordering.TheVariants.{Less, Equal, Greater}
 use Rattle.octets.specs.Octets.{part, all_zero}
-use Rattle.keys.specs.declared.orders.Order.{Order}
-use Rattle.keys.specs.declared.orders.Order.TheVariants.{Less, Equal, Greater}
 use Rattle.keys.specs.declared.orders.Wide.{Wide}
 
 abbrev pub Key : Type 0
 Key = List ℕ
 
-abbrev pub order_n : ℕ → ℕ → Order
-order_n m n = cond (ltb m n) Less (cond (ltb n m) Greater Equal)
-
--- the first of two orders that is not Equal
-abbrev pub then : Order → Order → Order
-then Less o = Less
-then Equal o = o
-then Greater o = Greater
-
-abbrev pub order : Key → Key → Order
+abbrev pub order : Key → Key → Ordering
 order [] [] = Equal
 order [] (y ∷ ys) = Less
 order (x ∷ xs) [] = Greater
-order (x ∷ xs) (y ∷ ys) = then (order_n x y) (order xs ys)
+order (x ∷ xs) (y ∷ ys) = ordering_then (nat_cmp x y) (order xs ys)
 
 -- a zero byte counts: "A", and "A" with one behind it, are two keys
 pub zero_counts : order (0x41 ∷ []) (0x41 ∷ 0x00 ∷ []) ≡ Less
 zero_counts = refl
 
 -- one of three by an order
-abbrev pub three {ℓ} : {A : Type ℓ} → Order → A → A → A → A
+abbrev pub three {ℓ} : {A : Type ℓ} → Ordering → A → A → A → A
 three Less a b c = a
 three Equal a b c = b
 three Greater a b c = c
 
-abbrev pub is_less : Order → Bool
-is_less o = three o true false false
-
-abbrev pub is_equal : Order → Bool
-is_equal o = three o false true false
-
 abbrev pub below : Key → Key → Bool
-below j k = is_less (order j k)
+below j k = is_lt (order j k)
 
 -- j is below the first of the keys
 abbrev pub below_first : Key → List Key → Bool
@@ -75,8 +61,8 @@ big xs = big_from 0 xs
 unfoldable pub wide_of : List ℕ → ℕ → Wide
 wide_of xs n = record { high = big (part 0 8 xs); low = big (part 8 8 xs); len = n }
 
-abbrev pub order_wide : Wide → Wide → Order
-order_wide a b = then (order_n a.high b.high) (then (order_n a.low b.low) (order_n a.len b.len))
+abbrev pub order_wide : Wide → Wide → Ordering
+order_wide a b = ordering_then (nat_cmp a.high b.high) (ordering_then (nat_cmp a.low b.low) (nat_cmp a.len b.len))
 
 -- zeros stand behind the key, by what shifts leave of its two numbers
 unfoldable pub clear_wide : Wide → Bool

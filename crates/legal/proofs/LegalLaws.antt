@@ -1,10 +1,11 @@
 -- Legal parts: they hold a map within the limits of its namespace; and then every key can be looked for. Assumes nothing.
-use mathlib.Core.Path.{◌≡◌, refl, sym, ap, ◌∙◌}
+use mathlib.Core.Path.{◌≡◌, refl, sym}
 use mathlib.Core.Bool.{Bool, true, false}
 use mathlib.Core.List.{List}
+use Rattle.std.specs.Prelude.{Some}
 use Prim.Native.Nat.{ℕ, ◌*◌}
 use native.Mathlib.Omega.{arith}
-use Rattle.octets.proofs.TestLaws.{all_true, true_all, contrary}
+use Rattle.octets.proofs.TestLaws.{all_true, true_all}
 use Rattle.octets.proofs.ZeroLaws.{true_same, same_true}
 use Rattle.keys.proofs.OrderLaws.{true_rising}
 use Rattle.store.specs.declared.namespaces.Label.{Label}
@@ -50,11 +51,14 @@ module _ (h : Label) (s vs : List ℕ) where
       }
 
 -- what the check of two parts says
-pub sums_legal : (h : Label) (s vs : List ℕ) (r : Sums) → r ≡ part_sums h s vs → r.ok ≡ true
-    → (part_legal h s vs ≡ true) × (r ≡ sums_of (pairs_in h.count s vs))
+pub sums_legal : (h : Label) (s vs : List ℕ) (r : Sums) → Some r ≡ part_sums h s vs → (part_legal h s vs ≡ true) × (r ≡ sums_of (pairs_in h.count s vs))
 unfolding part_sums
-sums_legal h s vs r e ok = by (part_legal h s vs) refl
+sums_legal h s vs r e = by (part_legal h s vs) refl
   where
     by : (x : Bool) → part_legal h s vs ≡ x → (part_legal h s vs ≡ true) × (r ≡ sums_of (pairs_in h.count s vs))
-    by true q = (q, rw q at e)
-    by false q = absurd (contrary (sym (ap (λ (x : Sums). x.ok) (rw q at e)) ∙ ok))
+    by true q =
+        let i = rw q at e in
+        (q, cc i)
+    by false q =
+        let i = rw q at e in
+        absurd (cc i)

@@ -23,8 +23,7 @@ use Rattle.commands.specs.Answer.{answer}
 use Rattle.wire.specs.Completion.{Post}
 use Rattle.commands.specs.Command.{completion_of, Lent, respond, serve, outcome}
 use Rattle.commands.proofs.CommandLaws.{entry_key, serve_is, serve_holds, command_0, command_1, command_2}
-use Rattle.maps.specs.declared.describes.Described.{Described}
-use Rattle.maps.specs.Describe.{describe}
+use Rattle.maps.specs.Describe.{Described, describe}
 use Rattle.maps.proofs.DescribeLaws.{describe_held}
 use Rattle.room.specs.Room.{room_of, room}
 use Rattle.identify.specs.Identify.{identify_of, identify, asked, create}

@@ -2,6 +2,7 @@
 use mathlib.Core.Path.{◌≡◌, refl, sym, ap, ◌∙◌}
 use mathlib.Core.Bool.{Bool, true, false, cond}
 use mathlib.Core.List.{List, [], ◌∷◌, ◌++◌}
+use Rattle.std.specs.Prelude.{Some, None}
 use Prim.Native.Nat.{ℕ, ◌+◌, ◌-◌, ◌*◌, ◌≤◌}
 use native.Mathlib.Omega.{arith}
 use lib.Dec.{eqb}
@@ -30,21 +31,25 @@ use Rattle.maps.specs.Asks.{records_at, values_at, keys_at, CanLook, Legal}
 
 -- ---- the check's answer
 
-numbers_ok : (n : ℕ) (ss : List Namespace) → 1 ≤ length ss → (numbers_of n ss).ok ≡ true
-numbers_ok n [] l = absurd (omega arith)
-numbers_ok n (s ∷ []) l = refl
-numbers_ok n (s ∷ t ∷ ss) l = by (eqb t.id n)
-  where
-    by : (x : Bool) → (cond x (numbers_after (s ∷ []) t) (numbers_after [] s)).ok ≡ true
-    by true = refl
-    by false = refl
-
-pub ok_is : {k : Checked} (n : ℕ) (m : Memory) → k ≡ checked n m → k.ok ≡ legal m
+pub illegal_checked : (n : ℕ) (m : Memory) → None ≡ checked n m → legal m ≡ false
 unfolding checked
-ok_is n m e =
+illegal_checked n m e =
+    elim (known (legal m)) [ fails q ↦ q | holds q ↦ go (namespaces_of m) (legal_holds m q).within.one (rw q at e) ]
+  where
+    go : (ss : List Namespace) → 1 ≤ length ss → None ≡ numbers_of n ss → legal m ≡ false
+    go [] l i = absurd (omega arith)
+    go (s ∷ []) l i = absurd (cc i)
+    go (s ∷ t ∷ ss) l i = absurd (cc i)
+
+-- the numbers are those of memory that is legal
+from_legal : {k : Checked} (n : ℕ) (m : Memory) → Some k ≡ checked n m → (legal m ≡ true) × (Some k ≡ numbers_of n (namespaces_of m))
+unfolding checked
+from_legal n m e =
     elim (known (legal m)) [
-      | holds q ↦ rw (e, q) (numbers_ok n (namespaces_of m) (legal_holds m q).within.one)
-      | fails q ↦ rw (e, q)
+      | holds q ↦ (q, rw q at e)
+      | fails q ↦
+          let i = rw q at e in
+          absurd (cc i)
     ]
 
 -- ---- the namespace between a and b
@@ -90,41 +95,43 @@ module _ (a b : List Namespace) (s : Namespace) {d v : List ℕ} (h : Holds (a +
         fits = omega (arith, values_long_enough h, total_at size_of a b s);
       }
 
--- where the check says so, memory is legal
-pub legal_checked : {k : Checked} (n : ℕ) (d v : List ℕ) → k ≡ checked n (memory d v) → k.ok ≡ true → Legal k d v
-unfolding checked
-legal_checked {k} n d v e ok =
-    let l : legal (memory d v) ≡ true = sym (ok_is n (memory d v) e) ∙ ok in
-    let q : k ≡ numbers_of n (namespaces_of (memory d v)) = rw l at e in
-    rw q (go (namespaces_of (memory d v)) refl (legal_holds (memory d v) l) l)
+-- where the check finds numbers, memory is legal
+pub legal_checked : {k : Checked} (n : ℕ) (d v : List ℕ) → Some k ≡ checked n (memory d v) → Legal k d v
+legal_checked {k} n d v e =
+    let q = from_legal n (memory d v) e in
+    go (namespaces_of (memory d v)) q.1 refl (legal_holds (memory d v) q.0) q.0
   where
-    go : (ss : List Namespace) → namespaces_of (memory d v) ≡ ss → Holds (namespaces_of (memory d v)) (memory d v) → legal (memory d v) ≡ true
-        → Legal (numbers_of n ss) d v
-    go [] f h l = absurd (omega (arith, rw f at h.within.one))
-    go (s ∷ []) f h l = named_legal [] [] s (rw f at h) l f
-    go (s ∷ t ∷ ss) f h l = by (eqb t.id n)
+    go : (ss : List Namespace) → Some k ≡ numbers_of n ss → namespaces_of (memory d v) ≡ ss → Holds (namespaces_of (memory d v)) (memory d v)
+        → legal (memory d v) ≡ true → Legal k d v
+    go [] i f h l = absurd (cc i)
+    go (s ∷ []) i f h l =
+        let e : k ≡ numbers_after [] s = cc i in
+        rw e (named_legal [] [] s (rw f at h) l f)
+    go (s ∷ t ∷ ss) i f h l = by (eqb t.id n) (cc i)
       where
-        by : (x : Bool) → Legal (cond x (numbers_after (s ∷ []) t) (numbers_after [] s)) d v
-        by true = named_legal (s ∷ []) ss t (rw f at h) l f
-        by false = named_legal [] (t ∷ ss) s (rw f at h) l f
+        by : (x : Bool) → k ≡ cond x (numbers_after (s ∷ []) t) (numbers_after [] s) → Legal k d v
+        by true e = rw e (named_legal (s ∷ []) ss t (rw f at h) l f)
+        by false e = rw e (named_legal [] (t ∷ ss) s (rw f at h) l f)
 
 -- an id that is not the one it says is held by none
-pub unnamed : {k : Checked} (n : ℕ) (m : Memory) → k ≡ checked n m → k.ok ≡ true → ¬ (n ≡ k.label.id) → held n (namespaces_of m) ≡ false
-unfolding checked
-unnamed {k} n m e ok q =
-    let l : legal m ≡ true = sym (ok_is n m e) ∙ ok in
-    let is : k ≡ numbers_of n (namespaces_of m) = rw l at e in
-    go (namespaces_of m) (legal_holds m l).within.two (rw is at q)
+pub unnamed : {k : Checked} (n : ℕ) (m : Memory) → Some k ≡ checked n m → ¬ (n ≡ k.label.id) → held n (namespaces_of m) ≡ false
+unnamed {k} n m e q =
+    let is = from_legal n m e in
+    go (namespaces_of m) (legal_holds m is.0).within.two is.1
   where
-    go : (ss : List Namespace) → length ss ≤ 2 → ¬ (n ≡ (numbers_of n ss).label.id) → held n ss ≡ false
-    go [] l d = refl
-    go (s ∷ []) l d = rw (ne_eqb n s.id d)
-    go (s ∷ t ∷ []) l d = by (eqb t.id n) refl d
+    go : (ss : List Namespace) → length ss ≤ 2 → Some k ≡ numbers_of n ss → held n ss ≡ false
+    go [] l i = refl
+    go (s ∷ []) l i =
+        let e : k ≡ numbers_after [] s = cc i in
+        rw (ne_eqb n s.id (rw e at q))
+    go (s ∷ t ∷ []) l i = by (eqb t.id n) refl (cc i)
       where
-        by : (x : Bool) → eqb t.id n ≡ x → ¬ (n ≡ (cond x (numbers_after (s ∷ []) t) (numbers_after [] s)).label.id) → held n (s ∷ t ∷ []) ≡ false
-        by true f d = absurd (d (sym (eqb-true t.id n f)))
-        by false f d = rw (ne_eqb n s.id d, ne_eqb n t.id (λ h. eqb-false t.id n f (sym h)))
-    go (s ∷ t ∷ u ∷ ss) l d = absurd (omega arith)
+        by : (x : Bool) → eqb t.id n ≡ x → k ≡ cond x (numbers_after (s ∷ []) t) (numbers_after [] s) → held n (s ∷ t ∷ []) ≡ false
+        by true f e =
+            let d = rw e at q in
+            absurd (d (sym (eqb-true t.id n f)))
+        by false f e = rw (ne_eqb n s.id (rw e at q), ne_eqb n t.id (λ h. eqb-false t.id n f (sym h)))
+    go (s ∷ t ∷ u ∷ ss) l i = absurd (omega arith)
 
 -- ---- what stands in the parts
 

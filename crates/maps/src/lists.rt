@@ -7,15 +7,15 @@ ghost use Rattle.store.specs.Finds.{keys_in, KeyFits};
 ghost use Rattle.maps.specs.Asks.{Listing};
 
 use octets::words;
-use sheets::pages;
-use store::records::key_length_at;
+use sheets::pages::{Field, page_entry_size};
+use store::records::Record;
 
 // A function of its own, so that the bound is asked for once.
 fn key_len(records: &[u8], slot: u32) -> usize
     requires { (32 * slot + 32 ≤ length records.now) × KeyFits (drop (32 * slot) records.now) }
     ensures { (result ≡ key_length (drop (32 * slot) records.now)) × (result ≤ 16) }
 {
-    key_length_at(records, slot) as usize
+    Record::read(records, slot).key_length as usize
 }
 
 // The page of the keys from a slot on: up to the first entry that has no room left, and nothing is written behind it.
@@ -25,18 +25,21 @@ pub fn write_list(records: &[u8], count: u32, slot: u32, buffer: &mut [u8], size
 {
     let end = size as usize;
     let mut at: usize = 4;
-    let mut j = slot;
-    while j < count {
+    for j in slot..count {
         let from = 32 * j as usize;
         let len = key_len(records, j);
-        let entry = pages::page_entry_size(len);
+        let entry = page_entry_size(len);
         if end - at < entry {
-            break;
+            words::write32(buffer, 0, j - slot);
+            return;
         }
         // Straight from the record, whose sixteen key bytes hold the zeros of the entry too.
-        pages::write_page_entry(&mut buffer[at..end], &records[from..from + 16], len);
+        let field = Field {
+            bytes: &records[from..from + 16],
+            len,
+        };
+        field.write_page_entry(&mut buffer[at..end]);
         at += entry;
-        j += 1;
     }
-    words::write32(buffer, 0, j - slot);
+    words::write32(buffer, 0, count - slot);
 }

@@ -12,15 +12,13 @@ use crate::lists::write_list;
 use checking::checks::Checked;
 use store::finds::{Found, find};
 use store::reads::copy_value;
-use store::records::value_length_at;
+use store::records::Record;
 
 pub fn look_up(directory: &[u8], k: Checked, key: [u8; 16], len: u8) -> Found
     requires { CanLook k directory.now × Padded len key }
     ensures { result ≡ found key len (keys_at k directory.now) }
 {
-    let start = k.start;
-    let end = k.end;
-    find(&directory[start..end], k.label.count, key, len)
+    find(&directory[k.start..k.end], k.label.count, key, len)
 }
 
 // The bytes of a pair.
@@ -35,10 +33,9 @@ pub fn held_room(directory: &[u8], k: Checked, f: Found) -> u64
     requires { CanWeigh k f directory.now }
     ensures { result ≡ room_at k f directory.now }
 {
-    let start = k.start;
-    let end = k.end;
     if f.held {
-        return pair_room(f.len, value_length_at(&directory[start..end], f.slot));
+        let record = Record::read(&directory[k.start..k.end], f.slot);
+        return pair_room(f.len, record.value_length);
     }
     0
 }
@@ -57,13 +54,10 @@ pub fn hand_over(
         × (buffer.new
         ≡ put 0 (take amount (value_of (found_key f) (pairs_at k.label.id (memory directory.now values.now)))) buffer.old) }
 {
-    let start = k.start;
-    let end = k.end;
-    let base = k.base;
-    let stop = base + k.label.size as usize;
+    let stop = k.base + k.label.size as usize;
     copy_value(
-        &directory[start..end],
-        &values[base..stop],
+        &directory[k.start..k.end],
+        &values[k.base..stop],
         f.slot,
         buffer,
         amount,
@@ -75,7 +69,6 @@ pub fn list_keys(directory: &[u8], k: Checked, f: Found, buffer: &mut [u8], size
     requires { CanList k f size directory.now buffer.old }
     ensures { buffer.new ≡ put 0 (page (shown size (found_key f) (keys_at k directory.now))) buffer.old }
 {
-    let start = k.start;
-    let end = k.end;
-    write_list(&directory[start..end], k.label.count, f.slot, buffer, size);
+    let records = &directory[k.start..k.end];
+    write_list(records, k.label.count, f.slot, buffer, size);
 }

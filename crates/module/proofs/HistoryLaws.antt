@@ -22,7 +22,7 @@ use Rattle.memory.proofs.NameLaws.{with_same}
 use Rattle.memory.proofs.ImageLaws.{Holds}
 use Rattle.rules.specs.Steps.{status_of}
 use Rattle.rules.proofs.StepLaws.{status_byte}
-use Rattle.maps.specs.declared.describes.Described.{Described}
+use Rattle.maps.specs.Describe.{Described}
 use Rattle.maps.proofs.DescribeLaws.{describe_as}
 use Rattle.formatting.specs.Formatting.{blanks, Formatted, format}
 use Rattle.formatting.proofs.FormatLaws.{Few, blanks_within, format_holds, format_refused}

@@ -11,19 +11,21 @@ ghost use Rattle.quick.specs.Known.{known};
 ghost use Rattle.scratch.specs.Calls.{reading, writing, filling, slices, ended, memory_call};
 
 use commands::commands::command;
-use formatting::formats::{format, format_two};
+use formatting::formats::format;
 use formatting::measures::Half;
 use identify::creations::create;
 use identify::pages::identify;
 use quick::looks::{Look, known};
+use refusals::numbers::number;
 use room::polls::{Room, used_room};
 use scratch::calls::{memory_fill, memory_read, memory_write};
+use wire::completions::Post;
 
 pub fn kv_format(index: u32, id: u32, size: u64, directory: &mut [u8], values: &mut [u8]) -> u32
     ensures { formatted result (memory directory.new values.new)
         ≡ format (half index id size ∷ []) (memory directory.old values.old) }
 {
-    format(Half { index, id, size }, directory, values)
+    number(format(Half { index, id, size }, None, directory, values))
 }
 
 pub fn kv_format_two(
@@ -49,14 +51,14 @@ pub fn kv_format_two(
         id: id2,
         size: size2,
     };
-    format_two(first, second, directory, values)
+    number(format(first, Some(second), directory, values))
 }
 
 pub fn kv_format_fields(fields: &[u8], id: u32, directory: &mut [u8], values: &mut [u8]) -> u32
     ensures { formatted result (memory directory.new values.new)
         ≡ create fields.now id (memory directory.old values.old) }
 {
-    create(fields, id, directory, values)
+    number(create(fields, id, directory, values))
 }
 
 pub fn kv_command(
@@ -73,9 +75,8 @@ pub fn kv_command(
         ≡ command (post head queue phase) entry.now
         (lent completion.old buffer.old directory.old values.old) }
 {
-    command(
-        entry, completion, buffer, directory, values, head, queue, phase,
-    )
+    let post = Post { head, queue, phase };
+    number(command(entry, completion, buffer, directory, values, post))
 }
 
 pub fn kv_used(id: u32, directory: &[u8], values: &[u8]) -> Room
@@ -87,7 +88,7 @@ pub fn kv_used(id: u32, directory: &[u8], values: &[u8]) -> Room
 pub fn kv_identify(page: &mut [u8], id: u32, directory: &[u8], values: &[u8]) -> u32
     ensures { identified result page.new ≡ identify id page.old (memory directory.now values.now) }
 {
-    identify(page, id, directory, values)
+    number(identify(page, id, directory, values))
 }
 
 pub fn kv_known(key: &[u8], id: u32, directory: &[u8], values: &[u8]) -> Look
@@ -110,7 +111,8 @@ pub fn kv_memory_read(
         ≡ memory_call reading (post head queue phase) id entry.now
         (slices completion.old buffer.old memory.now) }
 {
-    memory_read(entry, completion, buffer, memory, id, head, queue, phase)
+    let post = Post { head, queue, phase };
+    number(memory_read(entry, completion, buffer, memory, id, post))
 }
 
 pub fn kv_memory_write(
@@ -127,7 +129,8 @@ pub fn kv_memory_write(
         ≡ memory_call writing (post head queue phase) id entry.now
         (slices completion.old buffer.now memory.old) }
 {
-    memory_write(entry, completion, buffer, memory, id, head, queue, phase)
+    let post = Post { head, queue, phase };
+    number(memory_write(entry, completion, buffer, memory, id, post))
 }
 
 pub fn kv_memory_fill(
@@ -144,5 +147,6 @@ pub fn kv_memory_fill(
         ≡ memory_call (filling fill) (post head queue phase) id entry.now
         (slices completion.old [] memory.old) }
 {
-    memory_fill(entry, completion, fill, memory, id, head, queue, phase)
+    let post = Post { head, queue, phase };
+    number(memory_fill(entry, completion, fill, memory, id, post))
 }

@@ -69,6 +69,11 @@ lent_put a k vs xs e h g =
     let r = drop-append-le (length vs) (take k d) (drop k d) (omega arith) in
     rw (e, zero-add, ← drop-drop (length vs) a xs, rw (take-append-drop k d) at r, append_assoc (take a xs) vs, append_assoc vs)
 
+-- where all of it is vs, vs is put into the whole
+pub lent_all : (a k : ℕ) (vs xs : List ℕ) {ys : List ℕ} → ys ≡ vs → k ≡ length vs → put_mid a k xs ys ≡ put a vs xs
+unfolding put
+lent_all a k vs xs e h = rw (e, h, drop-drop, append_assoc)
+
 -- a put behind a put is one put
 pub put_next : (at : ℕ) (us vs xs : List ℕ) → at + length us + length vs ≤ length xs → put (at + length us) vs (put at us xs) ≡ put at (us ++ vs) xs
 unfolding put
@@ -186,13 +191,6 @@ put_ahead at us vs xs h =
     let m : at ≤ length (take n xs) = omega arith in
     let o : at ≤ n = omega arith in
     rw (append_assoc (take n xs), take-append-le, take-take, drop_at, length-append, ← add_assoc) (simp append_assoc)
-
--- a byte is stored, and the others are put behind it; or they are put before it
-pub put_first : (at a : ℕ) (vs xs : List ℕ) → at + suc (length vs) ≤ length xs → put (at + 1) vs (set xs at a) ≡ put at (a ∷ vs) xs
-put_first at a vs xs h = rw (put_one at a xs (omega arith)) (put_next at (a ∷ []) vs xs (omega arith))
-
-pub put_last : (at a : ℕ) (us xs : List ℕ) → at + length us < length xs → put at us (set xs (at + length us) a) ≡ put at (us ++ (a ∷ [])) xs
-put_last at a us xs h = rw (put_one (at + length us) a xs h) (put_ahead at us (a ∷ []) xs (omega arith))
 
 -- ---- of slices: n bytes make room for us and us is put there, n bytes close a gap of k and zeros are put behind them
 

@@ -1,15 +1,17 @@
 -- The laws of `all_zero`, `same` and `filled`: what has zeros behind its first bytes is those bytes, filled. Assumes nothing.
 use mathlib.Core.Path.{◌≡◌, refl, sym, ap, ◌∙◌, ap₂}
-use mathlib.Core.Bool.{Bool, true, ◌&&◌, and_assoc}
+use mathlib.Core.Bool.{Bool, true, ◌&&◌, and-true, and_assoc}
 use mathlib.Core.List.{List, [], ◌∷◌, ◌++◌}
-use Prim.Native.Nat.{ℕ, zero, suc, ◌+◌, ◌-◌, ◌≤◌}
-use native.Mathlib.Nat.{sub-zero, zero-sub, suc-sub-suc}
+use Prim.Native.Nat.{ℕ, zero, suc, ◌+◌, ◌-◌, ◌*◌, ◌≤◌}
+use native.Mathlib.Nat.{zero-mul, suc-mul, sub-zero, zero-sub, suc-sub-suc}
 use native.Mathlib.Omega.{arith}
 use lib.Bits.{bit_or, or_zero_l, or_add_and, and_le_r}
 use lib.Dec.{eqb}
 use lib.ListN.{length, drop, length-append, length-drop, length-replicate, get_or-replicate, take-append-drop}
-use lib.Seq.{take-take, drop-append_seam}
+use lib.Seq.{drop-drop, take-take, drop-append_seam}
 use borrow.Author.Tests.{eqb-true, eq-eqb, ne_eqb}
+use Rattle.std.specs.List.{fold, list_all}
+use Rattle.std.specs.Simd.{first_chunks}
 use Rattle.octets.specs.Octets.{part, put, zeros, filled, all_zero, same}
 use Rattle.octets.proofs.TestLaws.{both}
 use Rattle.octets.proofs.PartLaws.{put_front, length_part}
@@ -30,10 +32,25 @@ zero_append [] ys = refl
 zero_append (x ∷ xs) ys = rw (zero_append xs ys) (sym (and_assoc (eqb x 0) (all_zero xs) (all_zero ys)))
 
 -- a byte joined to those seen is zero exactly if both are
-pub or_zero : (a x : ℕ) (b : Bool) → (eqb (bit_or a x) 0 && b) ≡ (eqb a 0 && (eqb x 0 && b))
+or_zero : (a x : ℕ) (b : Bool) → (eqb (bit_or a x) 0 && b) ≡ (eqb a 0 && (eqb x 0 && b))
 or_zero zero x b = rw (or_zero_l x)
 or_zero (suc a) x b =
     rw (ne_eqb (suc a) 0 (λ e. omega arith), ne_eqb (bit_or (suc a) x) 0 (λ e. omega (arith, or_add_and (suc a) x, and_le_r (suc a) x)))
+
+pub zero_joined : (a : ℕ) (xs : List ℕ) → eqb (fold bit_or a xs) 0 ≡ (eqb a 0 && all_zero xs)
+zero_joined a [] = sym (and-true (eqb a 0))
+zero_joined a (x ∷ xs) = zero_joined (bit_or a x) xs ∙ or_zero a x (all_zero xs)
+
+-- k blocks of n bytes are tested by themselves, and what is behind them
+zero_blocks : (n k : ℕ) (xs : List ℕ) → (list_all all_zero (first_chunks n k xs) && all_zero (drop (k * n) xs)) ≡ all_zero xs
+zero_blocks n zero xs = rw zero-mul
+zero_blocks n (suc k) xs =
+    let d : drop (k * n) (drop n xs) ≡ drop (suc k * n) xs = drop-drop (k * n) n xs ∙ ap (λ (i : ℕ). drop i xs) (rw suc-mul (omega arith)) in
+    rw (← d, and_assoc, zero_blocks n k (drop n xs), ← zero_append, take-append-drop)
+
+pub zero_parts : (n k : ℕ) (xs : List ℕ) {b : Bool} {rest : List ℕ} {blocks : List (List ℕ)} → b ≡ list_all all_zero blocks → blocks ≡ first_chunks n k xs
+    → rest ≡ drop (k * n) xs → (b && all_zero rest) ≡ all_zero xs
+zero_parts n k xs b e r = rw (b, e, r) (zero_blocks n k xs)
 
 pub same_self : (xs : List ℕ) → same xs xs ≡ true
 same_self [] = refl

@@ -1,3 +1,4 @@
 -- One outcome for each contract.
+mod Refused
 pub mod Unique
 pub mod UniqueBelow

@@ -1,6 +1,6 @@
 -- At most one outcome satisfies a contract: the law, then the public functions, those that are exported to C first; those of `octets`,
 -- `keys`, `wire`, `sheets`, `table`, `store` and `verbs` are in `UniqueBelow.antt`. Assumes nothing.
-use mathlib.Core.Path.{◌≡◌, sym, ap, ◌∙◌}
+use mathlib.Core.Path.{◌≡◌, refl, sym, ap, ◌∙◌}
 use mathlib.Core.List.{List}
 use Prim.Native.Nat.{ℕ, ◌≤◌}
 use Rattle.keys.specs.Keys.{Key}
@@ -44,6 +44,7 @@ use Rattle.host.proofs.replies as replies
 use Rattle.host.proofs.pages as hostPages
 use Rattle.host.proofs.identities as identities
 use Rattle.outcomes.specs.Unique.{Determines}
+use Rattle.outcomes.proofs.Refused.{result_one, done_one, run_one, coded, told_one}
 
 -- a contract that is an equation, with all that the function yields on its left: b and c are that side for two outcomes, and what
 -- can be read out of it is the same
@@ -120,7 +121,7 @@ pub write_counts_one : Determines labels.write_counts.Kinds.ps labels.write_coun
 write_counts_one κs a x y u v p q = slice p q (λ s. (s, (tt, (tt, (tt, tt)))))
 
 pub permit_one : Determines permits.permit.Kinds.ps permits.permit.Kinds.r permits.permit.Reads.Learnt
-permit_one κs a x y u v p q = value p q
+permit_one κs a x y u v p q = (result_one _ x y p.0 p.1 q.0 q.1, refl)
 
 pub check_one : Determines checks.check.Kinds.ps checks.check.Kinds.r checks.check.Reads.Learnt
 check_one κs a x y u v p q = value p q
@@ -128,7 +129,7 @@ check_one κs a x y u v p q = value p q
 -- ---- maps::describes, looks
 
 pub describe_one : Determines describes.describe.Kinds.ps describes.describe.Kinds.r describes.describe.Reads.Learnt
-describe_one κs a x y u v p q = value p q
+describe_one κs a x y u v p q = (told_one x y (p ∙ sym q), refl)
 
 pub look_up_one : Determines looks.look_up.Kinds.ps looks.look_up.Kinds.r looks.look_up.Reads.Learnt
 look_up_one κs a x y u v p q = value p q
@@ -153,42 +154,45 @@ erase_one κs a x y u v p q = slice p q (λ m. (m.directory, (m.values, (tt, (tt
 -- ---- rules::steps
 
 pub decide_early_one : Determines steps.decide_early.Kinds.ps steps.decide_early.Kinds.r steps.decide_early.Reads.Learnt
-decide_early_one κs a x y u v p q = value p q
+decide_early_one κs a x y u v p q = (coded x y (p ∙ sym q), refl)
 
 pub decide_late_one : Determines steps.decide_late.Kinds.ps steps.decide_late.Kinds.r steps.decide_late.Reads.Learnt
-decide_late_one κs a x y u v p q = value p q
+decide_late_one κs a x y u v p q = (coded x y (p ∙ sym q), refl)
 
 -- ---- formatting
 
 pub measure_one : Determines measures.measure.Kinds.ps measures.measure.Kinds.r measures.measure.Reads.Learnt
-measure_one κs a x y u v p q = value p q
+measure_one κs a x y u v p q = (result_one _ x y p.0 p.1 q.0 q.1, refl)
 
-pub measure_two_one : Determines measures.measure_two.Kinds.ps measures.measure_two.Kinds.r measures.measure_two.Reads.Learnt
-measure_two_one κs a x y u v p q = value p q
+pub label_one : Determines measures.Half.label.Kinds.ps measures.Half.label.Kinds.r measures.Half.label.Reads.Learnt
+label_one κs a x y u v p q = value p q
 
 pub format_one : Determines formats.format.Kinds.ps formats.format.Kinds.r formats.format.Reads.Learnt
-format_one κs a x y u v p q = one p q (λ (o : Formatted). o.number) (λ o. (tt, (o.after.directory, (o.after.values, tt))))
-
-pub format_two_one : Determines formats.format_two.Kinds.ps formats.format_two.Kinds.r formats.format_two.Reads.Learnt
-format_two_one κs a x y u v p q = one p q (λ (o : Formatted). o.number) (λ o. (tt, (tt, (o.after.directory, (o.after.values, tt)))))
+format_one κs a x y u v p q =
+    let e = one p q (λ (o : Formatted). o.number) (λ o. (tt, (tt, (o.after.directory, (o.after.values, tt))))) in
+    (done_one x y e.0, e.1)
 
 -- ---- commands
 
 pub step_one : Determines commands.step.Kinds.ps commands.step.Kinds.r commands.step.Reads.Learnt
-step_one κs a x y u v p q = slice p q (λ l. (tt, (l.completion, (l.buffer, (l.memory.directory, (l.memory.values, (tt, (tt, (tt, tt)))))))))
+step_one κs a x y u v p q = slice p q (λ l. (tt, (l.completion, (l.buffer, (l.memory.directory, (l.memory.values, (tt, tt)))))))
 
 pub command_one : Determines commands.command.Kinds.ps commands.command.Kinds.r commands.command.Reads.Learnt
 command_one κs a x y u v p q =
-    one p q (λ (o : Outcome). o.number)
-    (λ o. let l = o.after in (tt, (l.completion, (l.buffer, (l.memory.directory, (l.memory.values, (tt, (tt, (tt, tt)))))))))
+    let e = one p q (λ (o : Outcome). o.number) (λ o. let l = o.after in (tt, (l.completion, (l.buffer, (l.memory.directory, (l.memory.values, (tt, tt))))))) in
+    (done_one x y e.0, e.1)
 
 -- ---- identify::creations, pages
 
 pub create_one : Determines creations.create.Kinds.ps creations.create.Kinds.r creations.create.Reads.Learnt
-create_one κs a x y u v p q = one p q (λ (o : Formatted). o.number) (λ o. (tt, (tt, (o.after.directory, (o.after.values, tt)))))
+create_one κs a x y u v p q =
+    let e = one p q (λ (o : Formatted). o.number) (λ o. (tt, (tt, (o.after.directory, (o.after.values, tt))))) in
+    (done_one x y e.0, e.1)
 
 pub identify_one : Determines identifyPages.identify.Kinds.ps identifyPages.identify.Kinds.r identifyPages.identify.Reads.Learnt
-identify_one κs a x y u v p q = one p q (λ (i : Identified). i.number) (λ i. (i.page, (tt, (tt, (tt, tt)))))
+identify_one κs a x y u v p q =
+    let e = one p q (λ (i : Identified). i.number) (λ i. (i.page, (tt, (tt, (tt, tt))))) in
+    (done_one x y e.0, e.1)
 
 -- ---- room
 
@@ -198,7 +202,7 @@ used_room_one κs a x y u v p q = value p q
 -- ---- quick::heads, searches, tags, looks
 
 pub find_run_one : Determines heads.find_run.Kinds.ps heads.find_run.Kinds.r heads.find_run.Reads.Learnt
-find_run_one κs a x y u v p q = value p q
+find_run_one κs a x y u v p q = (run_one x y p q, refl)
 
 pub search_one : Determines searches.search.Kinds.ps searches.search.Kinds.r searches.search.Reads.Learnt
 search_one κs a x y u v p q = value p q

@@ -3,6 +3,14 @@
 use mathlib.Core.Path.{◌≡◌, refl, sym, ap, ◌∙◌}
 use mathlib.Core.List.{List}
 use Prim.Native.Nat.{ℕ}
+use lib.Dec.{eqb}
+use Rattle.std.specs.Prelude.{Bool, Result, Ok, Err}
+use Rattle.octets.proofs.TestLaws.{contrary}
+use Rattle.refusals.specs.declared.numbers.Refusal.{Refusal}
+use Rattle.refusals.proofs.Counted.{number_counts, number_one}
+use Rattle.sheets.specs.Page.{Entry, entry_in}
+use Rattle.refusals.proofs.numbers as numbers
+use Rattle.refusals.proofs.statuses as statuses
 use Rattle.keys.proofs.orders as orders
 use Rattle.keys.proofs.wide as wide
 use Rattle.octets.proofs.runs as runs
@@ -15,6 +23,7 @@ use Rattle.sheets.proofs.pages as pages
 use Rattle.scratch.specs.Calls.{Task, Tried, tried, Slices, slices, Ended, ended, memory_call}
 use Rattle.wire.specs.Completion.{Post}
 use Rattle.ranges.proofs.requests as requests
+use Rattle.outcomes.proofs.Refused.{done_one, coded}
 use Rattle.scratch.proofs.calls as memoryCalls
 use Rattle.store.specs.Maps.{Pair}
 use Rattle.store.specs.Parts.{Holds}
@@ -27,27 +36,35 @@ use Rattle.verbs.proofs.slots as slots
 use Rattle.outcomes.specs.Unique.{Determines}
 use Rattle.outcomes.proofs.Unique.{one, value, slice}
 
+-- ---- refusals::numbers, statuses
+
+pub refusal_number_one : Determines numbers.Refusal.number.Kinds.ps numbers.Refusal.number.Kinds.r numbers.Refusal.number.Reads.Learnt
+refusal_number_one κs a x y u v p q = value p q
+
+pub outcome_number_one : Determines numbers.number.Kinds.ps numbers.number.Kinds.r numbers.number.Reads.Learnt
+outcome_number_one κs a x y u v p q = value p q
+
+pub status_code_one : Determines statuses.Status.code.Kinds.ps statuses.Status.code.Kinds.r statuses.Status.code.Reads.Learnt
+status_code_one κs a x y u v p q = value p q
+
 -- ---- keys::orders, wide
+
+pub wide_eq_one : Determines orders.WidePartialEq.eq.Kinds.ps orders.WidePartialEq.eq.Kinds.r orders.WidePartialEq.eq.Reads.Learnt
+wide_eq_one κs a x y u v p q = value p q
+
+pub wide_cmp_one : Determines orders.WideOrd.cmp.Kinds.ps orders.WideOrd.cmp.Kinds.r orders.WideOrd.cmp.Reads.Learnt
+wide_cmp_one κs a x y u v p q = value p q
 
 pub read_big_one : Determines wide.read_big.Kinds.ps wide.read_big.Kinds.r wide.read_big.Reads.Learnt
 read_big_one κs a x y u v p q = value p q
 
-pub compare_one : Determines orders.compare.Kinds.ps orders.compare.Kinds.r orders.compare.Reads.Learnt
-compare_one κs a x y u v p q = value p q
-
 pub widen_one : Determines orders.widen.Kinds.ps orders.widen.Kinds.r orders.widen.Reads.Learnt
 widen_one κs a x y u v p q = value p q
-
-pub less_one : Determines orders.less.Kinds.ps orders.less.Kinds.r orders.less.Reads.Learnt
-less_one κs a x y u v p q = value p q
-
-pub equal_one : Determines orders.equal.Kinds.ps orders.equal.Kinds.r orders.equal.Reads.Learnt
-equal_one κs a x y u v p q = value p q
 
 pub pad_one : Determines orders.pad.Kinds.ps orders.pad.Kinds.r orders.pad.Reads.Learnt
 pad_one κs a x y u v p q = value p q
 
-pub is_clear_one : Determines orders.is_clear.Kinds.ps orders.is_clear.Kinds.r orders.is_clear.Reads.Learnt
+pub is_clear_one : Determines orders.Wide.is_clear.Kinds.ps orders.Wide.is_clear.Kinds.r orders.Wide.is_clear.Reads.Learnt
 is_clear_one κs a x y u v p q = value p q
 
 pub ends_clear_one : Determines orders.ends_clear.Kinds.ps orders.ends_clear.Kinds.r orders.ends_clear.Reads.Learnt
@@ -61,11 +78,8 @@ copy_one κs a x y u v p q = slice p q (λ s. (tt, (s, tt)))
 pub copy_at_one : Determines runs.copy_at.Kinds.ps runs.copy_at.Kinds.r runs.copy_at.Reads.Learnt
 copy_at_one κs a x y u v p q = slice p q (λ s. (tt, (s, (tt, tt))))
 
-pub move_up_one : Determines runs.move_up.Kinds.ps runs.move_up.Kinds.r runs.move_up.Reads.Learnt
-move_up_one κs a x y u v p q = slice p q (λ s. (s, (tt, (tt, (tt, tt)))))
-
-pub move_down_one : Determines runs.move_down.Kinds.ps runs.move_down.Kinds.r runs.move_down.Reads.Learnt
-move_down_one κs a x y u v p q = slice p q (λ s. (s, (tt, (tt, (tt, tt)))))
+pub slide_one : Determines runs.slide.Kinds.ps runs.slide.Kinds.r runs.slide.Reads.Learnt
+slide_one κs a x y u v p q = slice p q (λ s. (s, (tt, (tt, (tt, tt)))))
 
 pub clear_one : Determines runs.clear.Kinds.ps runs.clear.Kinds.r runs.clear.Reads.Learnt
 clear_one κs a x y u v p q = slice p q (λ s. (s, (tt, (tt, tt))))
@@ -93,9 +107,6 @@ write16_one κs a x y u v p q = slice p q (λ s. (s, (tt, (tt, tt))))
 pub write32_one : Determines words.write32.Kinds.ps words.write32.Kinds.r words.write32.Reads.Learnt
 write32_one κs a x y u v p q = slice p q (λ s. (s, (tt, (tt, tt))))
 
-pub smaller_one : Determines words.smaller.Kinds.ps words.smaller.Kinds.r words.smaller.Reads.Learnt
-smaller_one κs a x y u v p q = value p q
-
 -- ---- wire::completions
 
 pub write_completion_one : Determines completions.write_completion.Kinds.ps completions.write_completion.Kinds.r completions.write_completion.Reads.Learnt
@@ -104,7 +115,13 @@ write_completion_one κs a x y u v p q = slice p q (λ s. (s, (tt, tt)))
 pub read_completion_one : Determines completions.read_completion.Kinds.ps completions.read_completion.Kinds.r completions.read_completion.Reads.Learnt
 read_completion_one κs a x y u v p q = value p q
 
+pub completion_one : Determines completions.Post.completion.Kinds.ps completions.Post.completion.Kinds.r completions.Post.completion.Reads.Learnt
+completion_one κs a x y u v p q = value p q
+
 -- ---- wire::entries
+
+pub is_one : Determines entries.Command.is.Kinds.ps entries.Command.is.Kinds.r entries.Command.is.Reads.Learnt
+is_one κs a x y u v p q = value p q
 
 pub read_entry_one : Determines entries.read_entry.Kinds.ps entries.read_entry.Kinds.r entries.read_entry.Reads.Learnt
 read_entry_one κs a x y u v p q = value p q
@@ -114,8 +131,18 @@ write_entry_one κs a x y u v p q = slice p q (λ s. (s, (tt, tt)))
 
 -- ---- sheets::entries
 
+-- whether nothing is refused; and what an entry says tells the result
+abbrev none : Entry → Bool
+none i = eqb i.number 0
+
+entry_one : (x y : Result ℕ Refusal) → entry_in x ≡ entry_in y → x ≡ y
+entry_one (Ok m) (Ok n) e = ap (λ (i : Entry). Ok i.len) e
+entry_one (Ok m) (Err s) e = absurd (contrary (sym (number_counts s) ∙ sym (ap none e)))
+entry_one (Err r) (Ok n) e = absurd (contrary (sym (number_counts r) ∙ ap none e))
+entry_one (Err r) (Err s) e = ap Err (number_one r s (ap (λ (i : Entry). i.number) e))
+
 pub read_page_entry_one : Determines readings.read_page_entry.Kinds.ps readings.read_page_entry.Kinds.r readings.read_page_entry.Reads.Learnt
-read_page_entry_one κs a x y u v p q = value p q
+read_page_entry_one κs a x y u v p q = (entry_one x y (p.0 ∙ sym q.0), refl)
 
 -- ---- sheets::identify
 
@@ -127,31 +154,34 @@ index_in_one κs a x y u v p q = value p q
 pub page_entry_size_one : Determines pages.page_entry_size.Kinds.ps pages.page_entry_size.Kinds.r pages.page_entry_size.Reads.Learnt
 page_entry_size_one κs a x y u v p q = value p q
 
-pub write_page_entry_one : Determines pages.write_page_entry.Kinds.ps pages.write_page_entry.Kinds.r pages.write_page_entry.Reads.Learnt
-write_page_entry_one κs a x y u v p q = slice p q (λ s. (s, (tt, (tt, tt))))
+pub write_page_entry_one : Determines pages.Field.write_page_entry.Kinds.ps pages.Field.write_page_entry.Kinds.r pages.Field.write_page_entry.Reads.Learnt
+write_page_entry_one κs a x y u v p q = slice p q (λ s. (tt, (s, tt)))
 
 -- ---- ranges::requests, scratch::calls
 
-pub read_request_one : Determines requests.read_request.Kinds.ps requests.read_request.Kinds.r requests.read_request.Reads.Learnt
+pub read_request_one : Determines requests.Request.read.Kinds.ps requests.Request.read.Kinds.r requests.Request.read.Reads.Learnt
 read_request_one κs a x y u v p q = value p q
 
-pub number_for_one : Determines requests.number_for.Kinds.ps requests.number_for.Kinds.r requests.number_for.Reads.Learnt
-number_for_one κs a x y u v p q = value p q
+pub check_length_one : Determines requests.check_length.Kinds.ps requests.check_length.Kinds.r requests.check_length.Reads.Learnt
+check_length_one κs a x y u v p q = (done_one x y (p ∙ sym q), refl)
 
-pub status_for_one : Determines requests.status_for.Kinds.ps requests.status_for.Kinds.r requests.status_for.Reads.Learnt
-status_for_one κs a x y u v p q = value p q
+pub admit_one : Determines requests.Request.admit.Kinds.ps requests.Request.admit.Kinds.r requests.Request.admit.Reads.Learnt
+admit_one κs a x y u v p q = (coded x y (p ∙ sym q), refl)
 
 pub memory_read_one : Determines memoryCalls.memory_read.Kinds.ps memoryCalls.memory_read.Kinds.r memoryCalls.memory_read.Reads.Learnt
 memory_read_one κs a x y u v p q =
-    one p q (λ (o : Ended). o.number) (λ o. (tt, (o.after.completion, (o.after.buffer, (tt, (tt, (tt, (tt, (tt, tt)))))))))
+    let e = one p q (λ (o : Ended). o.number) (λ o. (tt, (o.after.completion, (o.after.buffer, (tt, (tt, (tt, tt))))))) in
+    (done_one x y e.0, e.1)
 
 pub memory_write_one : Determines memoryCalls.memory_write.Kinds.ps memoryCalls.memory_write.Kinds.r memoryCalls.memory_write.Reads.Learnt
 memory_write_one κs a x y u v p q =
-    one p q (λ (o : Ended). o.number) (λ o. (tt, (o.after.completion, (tt, (o.after.memory, (tt, (tt, (tt, (tt, tt)))))))))
+    let e = one p q (λ (o : Ended). o.number) (λ o. (tt, (o.after.completion, (tt, (o.after.memory, (tt, (tt, tt))))))) in
+    (done_one x y e.0, e.1)
 
 pub memory_fill_one : Determines memoryCalls.memory_fill.Kinds.ps memoryCalls.memory_fill.Kinds.r memoryCalls.memory_fill.Reads.Learnt
 memory_fill_one κs a x y u v p q =
-    one p q (λ (o : Ended). o.number) (λ o. (tt, (o.after.completion, (tt, (o.after.memory, (tt, (tt, (tt, (tt, tt)))))))))
+    let e = one p q (λ (o : Ended). o.number) (λ o. (tt, (o.after.completion, (tt, (o.after.memory, (tt, (tt, tt))))))) in
+    (done_one x y e.0, e.1)
 
 pub memory_parts : (t : Task) (p : Post) (id : ℕ) (e : List ℕ) (s : Slices) (r r' : ℕ) (c c' b b' m m' : List ℕ)
     → ended r (slices c b m) ≡ memory_call t p id e s → ended r' (slices c' b' m') ≡ memory_call t p id e s
@@ -179,20 +209,8 @@ find_one κs a x y u v p q = value p q
 
 -- ---- store::records
 
-pub key_length_at_one : Determines records.key_length_at.Kinds.ps records.key_length_at.Kinds.r records.key_length_at.Reads.Learnt
-key_length_at_one κs a x y u v p q = value p q
-
-pub place_at_one : Determines records.place_at.Kinds.ps records.place_at.Kinds.r records.place_at.Reads.Learnt
-place_at_one κs a x y u v p q = value p q
-
-pub value_length_at_one : Determines records.value_length_at.Kinds.ps records.value_length_at.Kinds.r records.value_length_at.Reads.Learnt
-value_length_at_one κs a x y u v p q = value p q
-
-pub owner_at_one : Determines records.owner_at.Kinds.ps records.owner_at.Kinds.r records.owner_at.Reads.Learnt
-owner_at_one κs a x y u v p q = value p q
-
-pub wide_at_one : Determines records.wide_at.Kinds.ps records.wide_at.Kinds.r records.wide_at.Reads.Learnt
-wide_at_one κs a x y u v p q = value p q
+pub record_read_one : Determines records.Record.read.Kinds.ps records.Record.read.Kinds.r records.Record.read.Reads.Learnt
+record_read_one κs a x y u v p q = value p q
 
 pub write_record_one : Determines records.write_record.Kinds.ps records.write_record.Kinds.r records.write_record.Reads.Learnt
 write_record_one κs a x y u v p q = slice p q (λ s. (s, (tt, (tt, (tt, (tt, (tt, tt)))))))
@@ -211,11 +229,11 @@ parts : {U : Type 0} {id n l : ℕ} {m : List Pair} {s t vs ws : List ℕ} → H
     → (slices : List ℕ → List ℕ → U) → (◌≡◌ {A = Unit {0}} tt tt) × (slices s vs ≡ slices t ws)
 parts p q slices = (refl, λ i. slices ((p.records ∙ sym q.records) i) ((p.values ∙ sym q.values) i))
 
-pub insert_one : Determines slots.insert.Kinds.ps slots.insert.Kinds.r slots.insert.Reads.Learnt
-insert_one κs a x y u v p q = parts p q (λ s vs. (s, (vs, (tt, (tt, (tt, (tt, (tt, (tt, tt)))))))))
+pub insert_one : Determines slots.Spot.insert.Kinds.ps slots.Spot.insert.Kinds.r slots.Spot.insert.Reads.Learnt
+insert_one κs a x y u v p q = parts p q (λ s vs. (tt, (s, (vs, (tt, (tt, tt))))))
 
-pub remove_one : Determines slots.remove.Kinds.ps slots.remove.Kinds.r slots.remove.Reads.Learnt
-remove_one κs a x y u v p q = parts p q (λ s vs. (s, (vs, (tt, (tt, (tt, (tt, tt)))))))
+pub remove_one : Determines slots.Spot.remove.Kinds.ps slots.Spot.remove.Kinds.r slots.Spot.remove.Reads.Learnt
+remove_one κs a x y u v p q = parts p q (λ s vs. (tt, (s, (vs, tt))))
 
-pub replace_one : Determines slots.replace.Kinds.ps slots.replace.Kinds.r slots.replace.Reads.Learnt
-replace_one κs a x y u v p q = parts p q (λ s vs. (s, (vs, (tt, (tt, (tt, (tt, (tt, (tt, tt)))))))))
+pub replace_one : Determines slots.Spot.replace.Kinds.ps slots.Spot.replace.Kinds.r slots.Spot.replace.Reads.Learnt
+replace_one κs a x y u v p q = parts p q (λ s vs. (tt, (s, (vs, (tt, (tt, tt))))))

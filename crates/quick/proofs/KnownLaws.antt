@@ -9,12 +9,15 @@ use native.Mathlib.Omega.{arith}
 use lib.Dec.{ltb, eqb}
 use lib.ListN.{length, drop, get_or}
 use borrow.Author.Tests.{eq-eqb, ltb-false}
+use Rattle.std.specs.Prelude.{Ok, Err}
+use Rattle.refusals.specs.declared.numbers.Refusal.{Refusal}
+use Rattle.refusals.specs.Refusals.{number_of}
 use Rattle.octets.specs.Octets.{part, number, filled}
 use Rattle.octets.proofs.TestLaws.{known as split, holds, fails, neither}
 use Rattle.octets.proofs.PartLaws.{length_part, part_drop, part_inside}
 use Rattle.octets.proofs.NumberLaws.{Bytes, bytes_part}
 use Rattle.octets.proofs.ZeroLaws.{length_filled, bytes_filled}
-use Rattle.keys.specs.declared.orders.Order.{Order}
+use Rattle.std.specs.declared.cmp.Ordering.{Ordering}
 use Rattle.keys.specs.declared.orders.Wide.{Wide}
 use Rattle.keys.specs.Keys.{Key, order, wide_of, order_wide}
 use Rattle.keys.proofs.WideLaws.{order_padded, wide_order}
@@ -29,13 +32,13 @@ use Rattle.memory.specs.Memory.{Memory, memory, label_of}
 use Rattle.memory.proofs.NameLaws.{another, at_none, at_there, Named, named}
 use Rattle.memory.proofs.ImageLaws.{Holds}
 use Rattle.memory.proofs.PlaceLaws.{within_held, part_held}
-use Rattle.quick.specs.declared.heads.Run.{Run}
 use Rattle.quick.specs.declared.looks.Look.{Look}
 use Rattle.quick.specs.Search.{Search, search, search_keys}
-use Rattle.quick.specs.Heads.{no_run, run_from, run_of}
+use Rattle.quick.specs.declared.heads.Span.{Span}
+use Rattle.quick.specs.Heads.{run_in, no_run, run_from, run_of}
 use Rattle.quick.specs.Known.{record_at, compare, no_key, run_for, look_of, known, no_look, known_in}
 use Rattle.quick.proofs.SearchLaws.{Alike, search_alike}
-use Rattle.quick.proofs.HeadLaws.{run_refused, run_lies, run_among, run_there, run_none, run_held}
+use Rattle.quick.proofs.HeadLaws.{run_lies, run_among, run_there, run_none, run_held}
 
 -- ---- what stands at a slot
 
@@ -84,25 +87,22 @@ module _ (k : Key) (id : ℕ) (m : Memory) where
   unfolding known run_for
   known_none e n f = rw (e, f)
 
-  module _ (e : no_key k ≡ false) {r : Run} (q : r ≡ run_of id m) where
-    pub known_refused : ¬ (r.number ≡ 0) → no_look r.number ≡ known k id m
-    known_refused n =
-        let i : r.number ≡ (run_of id m).number = ap (λ (x : Run). x.number) q in
-        sym (known_none e r.number (run_refused id m (λ z. n (i ∙ z)) ∙ ap no_run (sym i)))
+  module _ (e : no_key k ≡ false) where
+    pub known_refused : (r : Refusal) → run_in (Err r) ≡ run_of id m → no_look (number_of r) ≡ known k id m
+    known_refused r q = sym (known_none e (number_of r) (sym q))
 
-    known_looked : (o : ℕ → Order) → r.number ≡ 0
-        → ((j : ℕ) → j < r.count → o (r.first + j) ≡ compare k (record_at (r.first + j) m.directory))
-        → look_of 0 (search r.count o r.first r.count) ≡ known k id m
-    unfolding known run_for
-    known_looked o z h =
-        rw (e, ← q, z) (alike_look 0 (search_alike r.count o _ r.first r.first r.count h))
+    module _ {s : Span} (q : run_in (Ok s) ≡ run_of id m) where
+      known_looked : (o : ℕ → Ordering) → ((j : ℕ) → j < s.count → o (s.first + j) ≡ compare k (record_at (s.first + j) m.directory))
+          → look_of 0 (search s.count o s.first s.count) ≡ known k id m
+      unfolding known run_for
+      known_looked o h = rw (e, ← q) (alike_look 0 (search_alike s.count o _ s.first s.first s.count h))
 
-    -- the search that code has made
-    pub known_found : {w : Wide} → w ≡ wide_of (filled 16 k) (length k) → Bytes k → Bytes m.directory → r.number ≡ 0
-        → look_of 0 (search r.count (λ j. order_wide w (wide_in (drop (32 * j) (behind m.directory)))) r.first r.count) ≡ known k id m
-    known_found {w} c bk bd z =
-        let l = short_key k e in
-        known_looked _ z (λ j h. rw c (compared_at k m.directory (bytes_filled 16 k bk) bd l (r.first + j) (omega (arith, (run_lies id m q z).1))))
+      -- the search that code has made
+      pub known_found : {w : Wide} → w ≡ wide_of (filled 16 k) (length k) → Bytes k → Bytes m.directory
+          → look_of 0 (search s.count (λ j. order_wide w (wide_in (drop (32 * j) (behind m.directory)))) s.first s.count) ≡ known k id m
+      known_found {w} c bk bd =
+          let l = short_key k e in
+          known_looked _ (λ j h. rw c (compared_at k m.directory (bytes_filled 16 k bk) bd l (s.first + j) (omega (arith, (run_lies id m q).1))))
 
   known_run : no_key k ≡ false → (first n : ℕ) → run_of id m ≡ record { number = 0; first = first; count = n }
       → known k id m ≡ look_of 0 (search n (λ j. compare k (record_at j m.directory)) first n)

@@ -10,10 +10,11 @@ use lib.Pow.{pow-add}
 use lib.ListN.{length, get_or}
 use borrow.Author.Tests.{ltb-true, ltb-false}
 use Rattle.octets.proofs.TestLaws.{refuted, contrary}
-use Rattle.keys.specs.declared.orders.Order.{Order}
-use Rattle.keys.specs.declared.orders.Order.TheVariants.{Less, Equal, Greater}
-use Rattle.keys.specs.Keys.{Key, order, three, is_less}
-use Rattle.keys.proofs.OrderLaws.{Rising, flip, order_eq, order_flip, below_greater}
+use Rattle.std.specs.declared.cmp.Ordering.{Ordering}
+use Rattle.std.specs.declared.cmp.Ordering.TheVariants.{Less, Equal, Greater}
+use Rattle.std.specs.Ordering.{is_lt, ordering_reverse}
+use Rattle.keys.specs.Keys.{Key, order, three}
+use Rattle.keys.proofs.OrderLaws.{Rising, order_eq, order_flip, below_greater}
 use Rattle.store.specs.Finds.{rank, has_key}
 use Rattle.store.proofs.RankLaws.{rank_lt, first_below, rank_test, has_at}
 use Rattle.quick.specs.Search.{Search, here, beyond, search, search_keys}
@@ -21,7 +22,7 @@ use Rattle.quick.specs.Seen.{Each}
 
 -- ---- a step
 
-module _ (g : ℕ) (o : ℕ → Order) (low : ℕ) where
+module _ (g : ℕ) (o : ℕ → Ordering) (low : ℕ) where
   pub search_less : (n : ℕ) → 0 < n → o (low + n / 2) ≡ Less → search (suc g) o low n ≡ beyond (low + n / 2) (search g o low (n / 2))
   search_less zero h e = absurd (omega arith)
   search_less (suc n) h e = rw e
@@ -44,13 +45,13 @@ pub record Alike (s t : Search) : Type 0 where
   pub known : s.known ≡ t.known
   pub looks : length s.slots ≡ length t.slots
 
-alike_three : (x : Order) (i j : ℕ) {s t u v : Search} → Alike s t → Alike u v
+alike_three : (x : Ordering) (i j : ℕ) {s t u v : Search} → Alike s t → Alike u v
     → Alike (three x (beyond i s) (here i) (beyond i u)) (three x (beyond j t) (here j) (beyond j v))
 alike_three Less i j a b = record { known = a.known; looks = ap suc a.looks }
 alike_three Equal i j a b = record { known = refl; looks = refl }
 alike_three Greater i j a b = record { known = b.known; looks = ap suc b.looks }
 
-pub search_alike : (g : ℕ) (o p : ℕ → Order) (a b n : ℕ) → ((j : ℕ) → j < n → o (a + j) ≡ p (b + j)) → Alike (search g o a n) (search g p b n)
+pub search_alike : (g : ℕ) (o p : ℕ → Ordering) (a b n : ℕ) → ((j : ℕ) → j < n → o (a + j) ≡ p (b + j)) → Alike (search g o a n) (search g p b n)
 search_alike zero o p a b n h = record { known = refl; looks = refl }
 search_alike (suc g) o p a b zero h = record { known = refl; looks = refl }
 search_alike (suc g) o p a b (suc n) h =
@@ -66,14 +67,14 @@ search_alike (suc g) o p a b (suc n) h =
 
 -- ---- how many slots it looks at
 
-few_three : (x : Order) (i n : ℕ) (s u : Search) → length s.slots ≤ n → length u.slots ≤ n
+few_three : (x : Ordering) (i n : ℕ) (s u : Search) → length s.slots ≤ n → length u.slots ≤ n
     → length (three x (beyond i s) (here i) (beyond i u)).slots ≤ suc n
 few_three Less i n s u a b = omega arith
 few_three Equal i n s u a b = omega arith
 few_three Greater i n s u a b = omega arith
 
 -- fewer than 2^i slots take at most i looks
-pub search_few : (g : ℕ) (o : ℕ → Order) (low n i : ℕ) → n < 2 ^ i → length (search g o low n).slots ≤ i
+pub search_few : (g : ℕ) (o : ℕ → Ordering) (low n i : ℕ) → n < 2 ^ i → length (search g o low n).slots ≤ i
 search_few zero o low n i h = omega arith
 search_few (suc g) o low zero i h = omega arith
 search_few (suc g) o low (suc n) zero h = absurd (omega arith)
@@ -92,13 +93,13 @@ pub record Among (low n j : ℕ) : Type 0 where
   pub from : low ≤ j
   pub to : j < low + n
 
-lies_three : (P : ℕ → Type 0) (x : Order) (i : ℕ) (s u : Search) → P i → Each P s.slots → Each P u.slots
+lies_three : (P : ℕ → Type 0) (x : Ordering) (i : ℕ) (s u : Search) → P i → Each P s.slots → Each P u.slots
     → Each P (three x (beyond i s) (here i) (beyond i u)).slots
 lies_three P Less i s u p a b = (p, a)
 lies_three P Equal i s u p a b = (p, tt)
 lies_three P Greater i s u p a b = (p, b)
 
-pub search_lies : (g : ℕ) (o : ℕ → Order) (low n : ℕ) → Each (Among low n) (search g o low n).slots
+pub search_lies : (g : ℕ) (o : ℕ → Ordering) (low n : ℕ) → Each (Among low n) (search g o low n).slots
 search_lies zero o low n = tt
 search_lies (suc g) o low zero = tt
 search_lies (suc g) o low (suc n) =
@@ -114,14 +115,14 @@ search_lies (suc g) o low (suc n) =
 
 -- ---- and nothing but them
 
-same_three : (o p : ℕ → Order) (i : ℕ) {s t u v : Search} (x : Order) → o i ≡ x → (Each (λ j. o j ≡ p j) s.slots → s ≡ t)
+same_three : (o p : ℕ → Ordering) (i : ℕ) {s t u v : Search} (x : Ordering) → o i ≡ x → (Each (λ j. o j ≡ p j) s.slots → s ≡ t)
     → (Each (λ j. o j ≡ p j) u.slots → u ≡ v) → Each (λ j. o j ≡ p j) (three x (beyond i s) (here i) (beyond i u)).slots
     → three x (beyond i s) (here i) (beyond i u) ≡ three (p i) (beyond i t) (here i) (beyond i v)
 same_three o p i Less e f g h = rw (sym h.0 ∙ e) (ap (beyond i) (f h.1))
 same_three o p i Equal e f g h = rw (sym h.0 ∙ e)
 same_three o p i Greater e f g h = rw (sym h.0 ∙ e) (ap (beyond i) (g h.1))
 
-pub search_same : (g : ℕ) (o p : ℕ → Order) (low n : ℕ) → Each (λ j. o j ≡ p j) (search g o low n).slots → search g o low n ≡ search g p low n
+pub search_same : (g : ℕ) (o p : ℕ → Ordering) (low n : ℕ) → Each (λ j. o j ≡ p j) (search g o low n).slots → search g o low n ≡ search g p low n
 search_same zero o p low n h = refl
 search_same (suc g) o p low zero h = refl
 search_same (suc g) o p low (suc n) h =
@@ -138,14 +139,14 @@ met_has k (j ∷ ks) (suc i) r h e =
     let f : order k j ≡ Greater = rw (order_eq k x e) (below_greater j x (first_below j ks i r (omega arith))) in
     rw f (met_has k ks i r.1 (omega arith) e)
 
-known_three : (x : Order) (i : ℕ) (s u : Search) {t : Bool} → (x ≡ Less → s.known ≡ t) → (x ≡ Equal → t ≡ true) → (x ≡ Greater → u.known ≡ t)
+known_three : (x : Ordering) (i : ℕ) (s u : Search) {t : Bool} → (x ≡ Less → s.known ≡ t) → (x ≡ Equal → t ≡ true) → (x ≡ Greater → u.known ≡ t)
     → (three x (beyond i s) (here i) (beyond i u)).known ≡ t
 known_three Less i s u f g h = f refl
 known_three Equal i s u f g h = sym (g refl)
 known_three Greater i s u f g h = h refl
 
 module _ (k : Key) (ks : List Key) (r : Rising ks) where
-  abbrev met : ℕ → Order
+  abbrev met : ℕ → Ordering
   met j = order k (get_or ks j [])
 
   -- if the key is there at all, its slot is among the n from low on
@@ -157,19 +158,19 @@ module _ (k : Key) (ks : List Key) (r : Rising ks) where
     less_means e t = go (ltb i (rank k ks)) refl
       where
         f : order (get_or ks i []) k ≡ Greater
-        f = order_flip k (get_or ks i []) ∙ ap flip e
+        f = order_flip k (get_or ks i []) ∙ ap ordering_reverse e
 
         elsewhere : rank k ks ≡ i → ⊥
         elsewhere q = contrary (sym (rw (q, f) at (has_at k ks (omega arith))) ∙ t)
 
         go : (z : Bool) → ltb i (rank k ks) ≡ z → rank k ks < i
-        go true z = absurd (contrary (sym (ap is_less f) ∙ rank_test k ks i r h ∙ z))
+        go true z = absurd (contrary (sym (ap is_lt f) ∙ rank_test k ks i r h ∙ z))
         go false z = omega (arith, ltb-false i (rank k ks) z, elsewhere)
 
     greater_means : met i ≡ Greater → i < rank k ks
     greater_means e =
-        let f : order (get_or ks i []) k ≡ Less = order_flip k (get_or ks i []) ∙ ap flip e in
-        ltb-true i (rank k ks) (sym (rank_test k ks i r h) ∙ ap is_less f)
+        let f : order (get_or ks i []) k ≡ Less = order_flip k (get_or ks i []) ∙ ap ordering_reverse e in
+        ltb-true i (rank k ks) (sym (rank_test k ks i r h) ∙ ap is_lt f)
 
   none : (low : ℕ) → Inside low 0 → false ≡ has_key k ks
   none low w = sym (refuted (has_key k ks) (λ t. omega (arith, (w t).from, (w t).to)))

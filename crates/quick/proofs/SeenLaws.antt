@@ -12,9 +12,8 @@ use Rattle.octets.proofs.TestLaws.{known as split, holds, fails}
 use Rattle.octets.proofs.PartLaws.{part_take}
 use Rattle.keys.specs.Keys.{Key}
 use Rattle.memory.specs.Memory.{Memory, label_in, label_at}
-use Rattle.quick.specs.declared.heads.Run.{Run}
 use Rattle.quick.specs.Search.{Search, search}
-use Rattle.quick.specs.Heads.{slots_by, run_of}
+use Rattle.quick.specs.Heads.{Run, slots_by, run_of}
 use Rattle.quick.specs.Known.{record_at, compare, no_key, run_for, search_for, look_of, known}
 use Rattle.quick.specs.Seen.{Each, SameSeen}
 use Rattle.quick.proofs.SearchLaws.{search_few, search_same, search_lies, each_map, Among}

@@ -1,24 +1,26 @@
 -- Whether a key is stored, by a search that is defined on any bytes (request [4]). Assumes nothing.
-use Rattle.std.specs.Prelude.{Bool, cond, ◌||◌, List, ℕ, ◌+◌, ◌*◌, length, ltb, eqb}
+use Rattle.std.specs.Prelude.{Bool, cond, ◌||◌, Result, Ok, Err, List, ℕ, ◌+◌, ◌*◌, length, ltb, eqb}
+use Rattle.refusals.specs.declared.numbers.Refusal.{Refusal}
+use Rattle.refusals.specs.Refusals.{number_of}
 use Rattle.octets.specs.Octets.{part, filled}
-use Rattle.keys.specs.declared.orders.Order.{Order}
-use Rattle.keys.specs.Keys.{Key, order, order_n, then}
+use Rattle.std.specs.declared.cmp.Ordering.{Ordering}
+use Rattle.std.specs.Ordering.{nat_cmp, ordering_then}
+use Rattle.keys.specs.Keys.{Key, order}
 use Rattle.store.specs.Maps.{keys}
 use Rattle.store.specs.Namespace.{Namespace}
 use Rattle.store.specs.Records.{key_length}
 use Rattle.memory.specs.Memory.{Memory}
-use Rattle.quick.specs.declared.heads.Run.{Run}
 use Rattle.quick.specs.declared.looks.Look.{Look}
 use Rattle.quick.specs.Search.{Search, search, search_keys}
-use Rattle.quick.specs.Heads.{no_run, run_of}
+use Rattle.quick.specs.Heads.{Run, no_run, run_of}
 
 -- the record at a slot, counted over the whole directory
 unfoldable pub record_at : ℕ → List ℕ → List ℕ
 record_at j d = part (64 + 32 * j) 32 d
 
 -- a key beside the one in a record, whatever bytes stand there: the sixteen bytes decide, then the lengths
-unfoldable pub compare : Key → List ℕ → Order
-compare k r = then (order (filled 16 k) (part 0 16 r)) (order_n (length k) (key_length r))
+unfoldable pub compare : Key → List ℕ → Ordering
+compare k r = ordering_then (order (filled 16 k) (part 0 16 r)) (nat_cmp (length k) (key_length r))
 
 -- number 15
 abbrev pub no_key : Key → Bool
@@ -41,6 +43,11 @@ known k id m = look_of (run_for k id m).number (search_for k id m)
 
 abbrev pub no_look : ℕ → Look
 no_look n = record { number = n; known = 0; looked = 0 }
+
+-- what code answers
+abbrev pub look_in : Result Look Refusal → Look
+look_in (Ok l) = l
+look_in (Err r) = no_look (number_of r)
 
 -- the same of a namespace and its map, with no memory
 abbrev pub known_in : Key → ℕ → Namespace → Look

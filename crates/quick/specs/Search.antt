@@ -1,7 +1,7 @@
 -- A search by halves among slots of which it is told how the key that is looked for compares with each: three ways, and an end where it is
 -- found. Assumes nothing.
 use Rattle.std.specs.Prelude.{Bool, true, false, List, [], ◌∷◌, ℕ, zero, suc, ◌+◌, ◌-◌, ◌/◌, length, get_or}
-use Rattle.keys.specs.declared.orders.Order.{Order}
+use Rattle.std.specs.declared.cmp.Ordering.{Ordering}
 use Rattle.keys.specs.Keys.{Key, order, three}
 
 -- the slots that were looked at, in their order, and whether one of them has the key
@@ -19,7 +19,7 @@ abbrev pub beyond : ℕ → Search → Search
 beyond j s = record { slots = j ∷ s.slots; known = s.known }
 
 -- among n slots from low on. No more than n can be looked at: the first number counts that down, so that the search is seen to end
-abbrev pub search : ℕ → (ℕ → Order) → ℕ → ℕ → Search
+abbrev pub search : ℕ → (ℕ → Ordering) → ℕ → ℕ → Search
 search zero o low n = nowhere
 search (suc g) o low zero = nowhere
 search (suc g) o low (suc n) =

@@ -1,113 +1,92 @@
 // Where the records of a namespace lie, by the two halves of the head alone.
-ghost use Rattle.std.specs.Prelude.{◌≡◌, ◌≤◌, length};
-ghost use Rattle.memory.specs.Memory.{memory, label_in, label_at};
-ghost use Rattle.quick.specs.Heads.{slots_by, claim_of, no_run, chosen, run_of};
+ghost use Rattle.std.specs.Prelude.{◌≡◌, length};
+ghost use Rattle.memory.specs.Memory.{memory, label_in};
+ghost use Rattle.quick.specs.Heads.{slots_by, claim_of, run_in, chosen, run_of};
 
 use memory::labels::{HALF, HEAD};
 use octets::words::read32;
+use refusals::numbers::Refusal;
 use table::formats::format_at;
 
-// What a half asks of the slices, and whether it may.
+// What a half asks of the slices; in whole words, as two of four bytes are packed into one and taken apart again.
 #[derive(Clone, Copy)]
 pub struct Claim {
-    pub sound: bool,
-    pub slots: u32,
-    pub size: u32,
+    pub slots: usize,
+    pub size: usize,
 }
 
-// A half with id 0 asks for nothing.
-fn judge(half: &[u8]) -> Claim
+// Number 6, of a half that asks for what there is not. One with id 0 asks for nothing.
+// Words are read where they are asked for: a whole label, read at once, is put aside on the stack, which slows a look by a fifteenth.
+#[tactic(auto, unfolding(crate::specs::Heads::claim_of, memory::specs::Memory::label_in))]
+fn judge(half: &[u8]) -> Result<Claim, Refusal>
     requires { length half.now ≡ 32 }
     ensures { result ≡ claim_of (label_in half.now) }
 {
     if read32(half, 0) == 0 {
-        return Claim {
-            sound: true,
-            slots: 0,
-            size: 0,
-        };
+        return Ok(Claim { slots: 0, size: 0 });
     }
     let index = read32(half, 4);
     let size = read32(half, 8);
     if (index <= 15) & (1 <= size) & (size <= 65536) {
         let slots = format_at(index).maxkeys;
         if read32(half, 12) <= slots {
-            return Claim {
-                sound: true,
-                slots,
-                size,
-            };
+            return Ok(Claim {
+                slots: slots as usize,
+                size: size as usize,
+            });
         }
     }
-    Claim {
-        sound: false,
-        slots: 0,
-        size: 0,
-    }
+    Err(Refusal::SliceLength)
 }
 
-// A house number; the first slot, counted over the whole directory, and how many hold keys.
+// The first slot, counted over the whole directory, and how many hold keys.
 #[derive(Clone, Copy)]
-pub struct Run {
-    pub number: u32,
-    pub first: u32,
-    pub count: u32,
-}
-
-fn no_run(number: u32) -> Run
-    ensures { result ≡ no_run number }
-{
-    Run {
-        number,
-        first: 0,
-        count: 0,
-    }
+pub struct Span {
+    pub first: usize,
+    pub count: usize,
 }
 
 // Number 23, of halves that may ask for what they do; `slots` is what the first one asks for.
-fn choose(id: u32, directory: &[u8], slots: u32) -> Run
-    requires { (64 ≤ length directory.now) × (slots ≡ slots_by (label_at 0 directory.now)) }
-    ensures { result ≡ chosen id (label_at 0 directory.now) (label_at 32 directory.now) }
+#[tactic(auto, unfolding(memory::specs::Memory::label_in))]
+fn choose(id: u32, first: &[u8], second: &[u8], slots: usize) -> Result<Span, Refusal>
+    requires first { length first.now ≡ 32 }
+    requires second { length second.now ≡ 32 }
+    requires slots { slots ≡ slots_by (label_in first.now) }
+    ensures { run_in result ≡ chosen id (label_in first.now) (label_in second.now) }
 {
     if id == 0 {
-        return no_run(23);
+        return Err(Refusal::NotHeld);
     }
-    if id == read32(directory, 0) {
-        return Run {
-            number: 0,
+    if id == read32(first, 0) {
+        return Ok(Span {
             first: 0,
-            count: read32(directory, 12),
-        };
+            count: read32(first, 12) as usize,
+        });
     }
-    if id == read32(directory, 32) {
-        return Run {
-            number: 0,
+    if id == read32(second, 0) {
+        return Ok(Span {
             first: slots,
-            count: read32(directory, 44),
-        };
+            count: read32(second, 12) as usize,
+        });
     }
-    no_run(23)
+    Err(Refusal::NotHeld)
 }
 
 // Numbers 6 and 23.
-pub fn find_run(id: u32, directory: &[u8], values: &[u8]) -> Run
-    ensures { result ≡ run_of id (memory directory.now values.now) }
+pub fn find_run(id: u32, directory: &[u8], values: &[u8]) -> Result<Span, Refusal>
+    ensures { run_in result ≡ run_of id (memory directory.now values.now) }
 {
     if directory.len() < HEAD {
-        return no_run(6);
+        return Err(Refusal::SliceLength);
     }
-    let a = judge(&directory[0..HALF]);
-    if !a.sound {
-        return no_run(6);
-    }
-    let b = judge(&directory[HALF..HEAD]);
-    if !b.sound {
-        return no_run(6);
-    }
-    let end = HEAD + 32 * (a.slots + b.slots) as usize;
-    let stop = (a.size + b.size) as usize;
+    let first = &directory[0..HALF];
+    let second = &directory[HALF..HEAD];
+    let a = judge(first)?;
+    let b = judge(second)?;
+    let end = HEAD + 32 * (a.slots + b.slots);
+    let stop = a.size + b.size;
     if (directory.len() < end) | (values.len() < stop) {
-        return no_run(6);
+        return Err(Refusal::SliceLength);
     }
-    choose(id, directory, a.slots)
+    choose(id, first, second, a.slots)
 }

@@ -6,63 +6,66 @@ ghost use Rattle.quick.specs.Search.{search};
 ghost use Rattle.quick.specs.Known.{look_of};
 
 use crate::looks::Look;
-use keys::orders::{Order, Wide};
+use keys::orders::Wide;
 use keys::wide::read_big;
 use octets::words::read32;
+use std::cmp::Ordering;
 
-// The key beside that of the record at an index. Most often the first eight bytes tell, and no more is read then.
-fn beside(records: &[u8], at: usize, wanted: Wide) -> Order
+// The key beside that of the record at an index. Most often the first eight bytes tell, and no more is read then. Written
+// out, with the test for below first: by `cmp`, whole or word by word with `then_with`, a look takes more instructions.
+fn beside(records: &[u8], at: usize, wanted: Wide) -> Ordering
     requires { at + 32 ≤ length records.now }
     ensures { result ≡ order_wide wanted (wide_in (drop at records.now)) }
 {
     let high = read_big(records, at);
     if wanted.high < high {
-        return Order::Less;
+        return Ordering::Less;
     }
     if high < wanted.high {
-        return Order::Greater;
+        return Ordering::Greater;
     }
     let low = read_big(records, at + 8);
     if wanted.low < low {
-        return Order::Less;
+        return Ordering::Less;
     }
     if low < wanted.low {
-        return Order::Greater;
+        return Ordering::Greater;
     }
     let len = read32(records, at + 16) as u64;
     if wanted.len < len {
-        return Order::Less;
+        return Ordering::Less;
     }
     if len < wanted.len {
-        return Order::Greater;
+        return Ordering::Greater;
     }
-    Order::Equal
+    Ordering::Equal
 }
 
-// By halves, among `count` slots from `first` on.
-pub fn search(records: &[u8], first: u32, count: u32, wanted: Wide) -> Look
+// By halves, among `count` slots from `first` on. By hand, since the records are bytes of a lent slice, the looks are counted, and a
+// key that is met ends the search.
+pub fn search(records: &[u8], first: usize, count: usize, wanted: Wide) -> Look
     requires { (first + count ≤ 2048) × (32 * (first + count) ≤ length records.now) }
     ensures { result ≡ look_of 0 (search count (λ j. order_wide wanted (wide_in (drop (32 * j) records.now))) first count) }
 {
-    let mut low = first as usize;
-    let mut left = count as usize;
+    let mut low = first;
+    let mut left = count;
     let mut looked = 0;
     while 0 < left {
         let half = left / 2;
         let middle = low + half;
         looked += 1;
         match beside(records, 32 * middle, wanted) {
-            Order::Less => {
+            Ordering::Less => {
                 left = half;
             }
-            Order::Equal => {
+            Ordering::Equal => {
                 return Look {
                     number: 0,
                     known: 1,
                     looked,
                 };
             }
-            Order::Greater => {
+            Ordering::Greater => {
                 low = middle + 1;
                 left -= half + 1;
             }

@@ -2,8 +2,7 @@
 use Rattle.std.specs.Prelude.{List, ℕ, length}
 use Rattle.store.specs.Maps.{Pair, used}
 use Rattle.memory.specs.Memory.{Memory}
-use Rattle.maps.specs.declared.describes.Described.{Described}
-use Rattle.maps.specs.Describe.{describe}
+use Rattle.maps.specs.Describe.{Described, describe}
 use Rattle.room.specs.declared.polls.Room.{Room}
 
 -- the used room of a map, and how many keys it has

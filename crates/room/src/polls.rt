@@ -15,13 +15,20 @@ pub struct Room {
 }
 
 // Numbers 18 and 23.
+#[tactic(auto, unfolding(crate::specs::Room::room))]
 pub fn used_room(id: u32, directory: &[u8], values: &[u8]) -> Room
     ensures { result ≡ room id (memory directory.now values.now) }
 {
-    let d = describe(id, directory, values);
-    Room {
-        number: d.number,
-        used: d.used,
-        keys: d.keys,
+    match describe(id, directory, values) {
+        Ok(d) => Room {
+            number: 0,
+            used: d.used,
+            keys: d.keys,
+        },
+        Err(refusal) => Room {
+            number: refusal.number(),
+            used: 0,
+            keys: 0,
+        },
     }
 }

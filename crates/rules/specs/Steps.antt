@@ -3,6 +3,7 @@
 use Rattle.std.specs.Prelude.{Bool, not, ◌&&◌, ◌||◌, List, [], ◌∷◌, ◌++◌, ℕ, ◌+◌, ◌-◌, length, leb, ltb, eqb}
 use Rattle.keys.specs.Keys.{Key}
 use Rattle.octets.specs.Tests.{Row, row, first_of}
+use Rattle.refusals.specs.Refusals.{code_of}
 use Rattle.wire.specs.declared.entries.Command.{Command}
 use Rattle.wire.specs.Entry.{key_of, stale, is_store, is_retrieve, is_list, is_delete, is_exist, known, if_present, if_absent}
 use Rattle.rules.specs.declared.steps.View.{View}
@@ -14,7 +15,7 @@ use Rattle.store.specs.Namespace.{Namespace}
 
 -- a row of the code's table
 abbrev pub row_of : CodeRow → Row
-row_of r = row r.0 r.1
+row_of r = row r.0 (code_of r.1)
 
 -- what is asked of a command before its key is looked for
 abbrev pub steps_to_h : View → Command → List Row

@@ -1,12 +1,13 @@
-// Steps a to j: the table of `specs/Steps.antt`. Those to h are an array of rows that computes to it; the three that are left are asked one
-// after the other.
+// Steps a to j: the table of `specs/Steps.antt`, as arrays of rows that compute to it.
 ghost use Rattle.std.specs.Prelude.{◌≡◌, map, ◌≤◌};
 ghost use Rattle.octets.specs.Tests.{first_of};
+ghost use Rattle.refusals.specs.Refusals.{code_in};
 ghost use Rattle.rules.specs.Steps.{row_of, steps_to_h, steps_from_i};
 
 use keys::orders::ends_clear;
+use refusals::statuses::Status;
 use table::formats::Format;
-use wire::entries::{Command, DELETE, EXIST, LIST, RETRIEVE, STORE};
+use wire::entries::{Command, Opcode};
 
 // What the steps to h look at beside the command: whether memory is legal, the namespace's format and id, and the length of the data buffer.
 #[derive(Clone, Copy)]
@@ -30,68 +31,65 @@ pub struct Stock {
 
 // A test, and the status that it names.
 #[derive(Clone, Copy)]
-pub struct Row(pub bool, pub u8);
+pub struct Row(pub bool, pub Status);
 
-// The first status whose test holds, else 0.
-fn first_of(rows: [Row; 10]) -> u8
-    ensures { result ≡ first_of (map row_of rows) }
+// The status of the first row whose test holds. No row returns from within the loop: the compiler would put the table into memory, to
+// read that row's status there.
+fn first_of<const N: usize>(rows: &[Row; N]) -> Result<(), Status>
+    ensures { code_in result ≡ first_of (map row_of rows.now) }
 {
-    let mut i = 0;
-    while i < rows.len() {
-        let row = rows[i];
-        if row.0 {
-            return row.1;
+    let mut outcome = Ok(());
+    for row in rows {
+        if outcome.is_ok() & row.0 {
+            outcome = Err(row.1);
         }
-        i += 1;
     }
-    0
+    outcome
 }
 
 // Steps a to h.
-pub fn decide_early(c: Command, v: View) -> u8
-    ensures { result ≡ first_of (steps_to_h v c) }
+pub fn decide_early(c: Command, v: View) -> Result<(), Status>
+    ensures { code_in result ≡ first_of (steps_to_h v c) }
 {
     let f = v.format;
-    let store = c.opcode == STORE;
-    let retrieve = c.opcode == RETRIEVE;
-    let list = c.opcode == LIST;
-    let delete = c.opcode == DELETE;
-    let exist = c.opcode == EXIST;
+    let store = c.is(Opcode::Store);
+    let retrieve = c.is(Opcode::Retrieve);
+    let list = c.is(Opcode::List);
+    let wrong_size = (f.keymax < c.len) | (c.len == 0) & !list;
     let short = v.room < c.amount as usize;
     let key = c.key;
     let clear = ends_clear(key, c.len);
-    first_of([
-        Row(!v.legal, 0x06),
-        Row(!(store | retrieve | list | delete | exist), 0x01),
-        Row(c.fused != 0, 0x02),
-        Row(c.nsid != v.id, 0x0b),
-        Row(16 < c.len, 0x02),
-        Row(!clear, 0x02),
-        Row((f.keymax < c.len) | (c.len == 0) & !list, 0x86),
-        Row(store & (f.valuemax < c.amount), 0x85),
-        Row(list & (c.amount < 4), 0x02),
-        Row((store | retrieve | list) & short, 0x04),
+    first_of(&[
+        Row(!v.legal, Status::Internal),
+        Row(Opcode::try_from(c.opcode).is_err(), Status::InvalidOpcode),
+        Row(c.fused != 0, Status::InvalidField),
+        Row(c.nsid != v.id, Status::InvalidNamespace),
+        Row(16 < c.len, Status::InvalidField),
+        Row(!clear, Status::InvalidField),
+        Row(wrong_size, Status::KeySize),
+        Row(store & (f.valuemax < c.amount), Status::ValueSize),
+        Row(list & (c.amount < 4), Status::InvalidField),
+        Row((store | retrieve | list) & short, Status::DataTransfer),
     ])
 }
 
 // Steps i and j.
-pub fn decide_late(c: Command, u: Stock) -> u8
+pub fn decide_late(c: Command, u: Stock) -> Result<(), Status>
     requires { u.old ≤ u.used }
-    ensures { result ≡ first_of (steps_from_i u c) }
+    ensures { code_in result ≡ first_of (steps_from_i u c) }
 {
-    let store = c.opcode == STORE;
+    let store = c.is(Opcode::Store);
+    let retrieve = c.is(Opcode::Retrieve);
+    let delete = c.is(Opcode::Delete);
+    let exist = c.is(Opcode::Exist);
     let if_present = store & (c.options % 2 == 1);
     let if_absent = store & (c.options / 2 % 2 == 1);
-    let needs = (c.opcode == RETRIEVE) | (c.opcode == DELETE) | (c.opcode == EXIST) | if_present;
+    let needs = retrieve | delete | exist | if_present;
+    let full = !u.held & (u.maxkeys <= u.count);
     let exceeds = (u.size as u64) < u.used as u64 - u.old + c.len as u64 + c.amount as u64;
-    if needs & !u.held {
-        return 0x87;
-    }
-    if if_absent & u.held {
-        return 0x89;
-    }
-    if store & (!u.held & (u.maxkeys <= u.count) | exceeds) {
-        return 0x81;
-    }
-    0
+    first_of(&[
+        Row(needs & !u.held, Status::KeyAbsent),
+        Row(if_absent & u.held, Status::KeyExists),
+        Row(store & (full | exceeds), Status::Capacity),
+    ])
 }

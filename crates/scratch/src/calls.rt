@@ -1,28 +1,20 @@
-// The memory commands from their bytes.
-ghost use Rattle.std.specs.Prelude.{◌≡◌, [], length};
-ghost use Rattle.wire.specs.Completion.{post, posted};
+// The memory commands from their bytes. The three stand written out: of what a closure wrote through a borrow that it holds, its caller's proof
+// knows nothing afterwards, so no function that takes the effect can say what becomes of the buffer or the memory.
+ghost use Rattle.std.specs.Prelude.{◌≡◌, []};
+ghost use Rattle.refusals.specs.Refusals.{number_in, code_in};
+ghost use Rattle.wire.specs.Completion.{posted};
 ghost use Rattle.scratch.specs.Calls.{reading, writing, filling, slices, ended, memory_call};
 
 use crate::effects::{fill_up, read_out, write_in};
-use ranges::requests::{number_for, read_request};
-use wire::completions::{Completion, write_completion};
+use ranges::requests::{Request, check_length};
+use refusals::numbers::Refusal;
+use refusals::statuses::{Status, code};
+use wire::completions::{Post, write_completion};
 
-fn conclude(completion: &mut [u8], cid: u16, status: u8, head: u16, queue: u16, phase: u16)
-    requires { length completion.old ≡ 16 }
-    ensures { completion.new ≡ posted (post head queue phase) cid status 0 }
+fn conclude(completion: &mut [u8; 16], post: Post, cid: u16, outcome: Result<(), Status>)
+    ensures { completion.new ≡ posted post cid (code_in outcome) 0 }
 {
-    write_completion(
-        completion,
-        Completion {
-            dword0: 0,
-            head,
-            queue,
-            cid,
-            phase: (phase % 2) as u8,
-            status,
-            kind: 0,
-        },
-    );
+    write_completion(completion, post.completion(cid, code(outcome), 0));
 }
 
 pub fn memory_read(
@@ -31,22 +23,23 @@ pub fn memory_read(
     buffer: &mut [u8],
     memory: &[u8],
     id: u32,
-    head: u16,
-    queue: u16,
-    phase: u16,
-) -> u32
-    ensures { ended result (slices completion.new buffer.new memory.now)
-        ≡ memory_call reading (post head queue phase) id entry.now
+    post: Post,
+) -> Result<(), Refusal>
+    ensures { ended (number_in result) (slices completion.new buffer.new memory.now)
+        ≡ memory_call reading post id entry.now
         (slices completion.old buffer.old memory.now) }
 {
-    let number = number_for(entry, completion, memory);
-    if number != 0 {
-        return number;
-    }
-    let q = read_request(entry);
-    let status = read_out(q, id, buffer, memory);
-    conclude(completion, q.cid, status, head, queue, phase);
-    0
+    let Some(entry) = entry.as_array::<64>() else {
+        return Err(Refusal::EntryLength);
+    };
+    let Some(completion) = completion.as_mut_array::<16>() else {
+        return Err(Refusal::CompletionLength);
+    };
+    check_length(memory)?;
+    let request = Request::read(entry);
+    let outcome = read_out(request, id, buffer, memory);
+    conclude(completion, post, request.cid, outcome);
+    Ok(())
 }
 
 pub fn memory_write(
@@ -55,22 +48,23 @@ pub fn memory_write(
     buffer: &[u8],
     memory: &mut [u8],
     id: u32,
-    head: u16,
-    queue: u16,
-    phase: u16,
-) -> u32
-    ensures { ended result (slices completion.new buffer.now memory.new)
-        ≡ memory_call writing (post head queue phase) id entry.now
+    post: Post,
+) -> Result<(), Refusal>
+    ensures { ended (number_in result) (slices completion.new buffer.now memory.new)
+        ≡ memory_call writing post id entry.now
         (slices completion.old buffer.now memory.old) }
 {
-    let number = number_for(entry, completion, memory);
-    if number != 0 {
-        return number;
-    }
-    let q = read_request(entry);
-    let status = write_in(q, id, buffer, memory);
-    conclude(completion, q.cid, status, head, queue, phase);
-    0
+    let Some(entry) = entry.as_array::<64>() else {
+        return Err(Refusal::EntryLength);
+    };
+    let Some(completion) = completion.as_mut_array::<16>() else {
+        return Err(Refusal::CompletionLength);
+    };
+    check_length(memory)?;
+    let request = Request::read(entry);
+    let outcome = write_in(request, id, buffer, memory);
+    conclude(completion, post, request.cid, outcome);
+    Ok(())
 }
 
 pub fn memory_fill(
@@ -79,20 +73,21 @@ pub fn memory_fill(
     word: u32,
     memory: &mut [u8],
     id: u32,
-    head: u16,
-    queue: u16,
-    phase: u16,
-) -> u32
-    ensures { ended result (slices completion.new [] memory.new)
-        ≡ memory_call (filling word) (post head queue phase) id entry.now
+    post: Post,
+) -> Result<(), Refusal>
+    ensures { ended (number_in result) (slices completion.new [] memory.new)
+        ≡ memory_call (filling word) post id entry.now
         (slices completion.old [] memory.old) }
 {
-    let number = number_for(entry, completion, memory);
-    if number != 0 {
-        return number;
-    }
-    let q = read_request(entry);
-    let status = fill_up(q, id, word, memory);
-    conclude(completion, q.cid, status, head, queue, phase);
-    0
+    let Some(entry) = entry.as_array::<64>() else {
+        return Err(Refusal::EntryLength);
+    };
+    let Some(completion) = completion.as_mut_array::<16>() else {
+        return Err(Refusal::CompletionLength);
+    };
+    check_length(memory)?;
+    let request = Request::read(entry);
+    let outcome = fill_up(request, id, word, memory);
+    conclude(completion, post, request.cid, outcome);
+    Ok(())
 }

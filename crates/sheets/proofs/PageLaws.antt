@@ -6,19 +6,19 @@ use mathlib.Core.List.{List, [], ◌∷◌, ◌++◌, append_assoc}
 use Prim.Native.Nat.{ℕ, ◌+◌, ◌-◌, ◌^◌, ◌≤◌, ◌<◌, suc}
 use native.Mathlib.Omega.{arith}
 use native.Mathlib.Nat.{zero-add, add-zero}
-use lib.ListN.{length, take, drop, drop_of_length-le, length-append, length-replicate, replicate-append-replicate}
+use lib.ListN.{length, take, drop_of_length-le, length-append, length-replicate, replicate-append-replicate}
 use lib.Seq.{drop_at, take_at, take_all, length-take-le}
 use lib.Dec.{ltb, eqb, leb}
-use borrow.Author.Tests.{le-ltb, ne_eqb, ltb-false, eqb-false, lt-ltb, leb-true, le-leb, lt-leb}
+use borrow.Author.Tests.{le-ltb, ne_eqb, lt-ltb, leb-true, le-leb, lt-leb}
 use Rattle.octets.specs.Octets.{part, put, number, bytes, zeros, filled, all_zero}
 use Rattle.keys.specs.Keys.{Key, below}
-use Rattle.octets.proofs.PartLaws.{part_seam, part_take, part_two, part_whole, drop_past, put_none, put_then, put_part, put_next, put_ahead}
-use Rattle.octets.proofs.NumberLaws.{Bytes, number_bytes, bytes_in}
+use Rattle.octets.proofs.PartLaws.{length_part, part_seam, part_take, part_two, part_whole, drop_past, put_none, put_then, put_part, put_next, put_ahead}
+use Rattle.octets.proofs.NumberLaws.{number_bytes}
 use Rattle.octets.proofs.ZeroLaws.{zeros_all, part_filled}
 use Rattle.keys.proofs.OrderLaws.{Below, BelowFirst, Rising}
-use Rattle.octets.proofs.TestLaws.{neither, none_holds, known, holds, fails}
-use Rattle.sheets.specs.Page.{entry_size, padding, page_entry, entries, page, first_entry, keys, read_entries, read_page, entry_steps, fits}
-use Rattle.sheets.specs.declared.pages.PageEntry.{PageEntry}
+use Rattle.octets.proofs.TestLaws.{known, holds, fails}
+use Rattle.sheets.specs.declared.pages.Field.{Field}
+use Rattle.sheets.specs.Page.{entry_size, padding, page_entry, entries, page, Entry, first_entry, keys, read_entries, read_page, entry_steps, fits}
 
 pub length_entry : (k : Key) → length (page_entry k) ≡ entry_size (length k)
 unfolding page_entry
@@ -34,7 +34,13 @@ longest_of : (q : ℕ) (k : Key) → 16 - length k + 2 ≡ padding (length k) + 
 unfolding page_entry
 longest_of q k a = simp (append_assoc, replicate-append-replicate, a)
 
-module _ (n : ℕ) (f : List ℕ) (long : length f ≡ 16) (fits : n ≤ 16) (padded : all_zero (drop n f) ≡ true) where
+module _ (field : Field) where
+  abbrev n : ℕ
+  n = field.len
+
+  abbrev f : List ℕ
+  f = field.bytes.now
+
   key_long : length (take n f) ≡ n
   key_long = length-take-le n f (omega arith)
 
@@ -46,8 +52,8 @@ module _ (n : ℕ) (f : List ℕ) (long : length f ≡ 16) (fits : n ≤ 16) (pa
   entry_front =
       let k = take n f in
       let q : ℕ = 18 - n - padding n in
-      let w = part_whole 16 f long in
-      let g : f ≡ filled 16 k = sym w ∙ part_filled 0 n 16 f (omega arith) fits (rw w padded) in
+      let w = part_whole 16 f field.sixteen in
+      let g : f ≡ filled 16 k = sym w ∙ part_filled 0 n 16 f (omega arith) field.fits (rw w field.clear) in
       let e : longest n f ≡ page_entry k ++ zeros q = ap₂ longest (sym key_long) g ∙ longest_of q k (rw key_long (omega arith)) in
       ap (take (entry_size n)) e ∙ take_at (page_entry k) (zeros q) (entry_size n) entry_long
 
@@ -59,7 +65,7 @@ module _ (n : ℕ) (f : List ℕ) (long : length f ≡ 16) (fits : n ≤ 16) (pa
   key_part from k h =
       ap (take k) (drop_past (bytes 2 n) (f ++ zeros 2) 2 from refl)
       ∙ sym (part_take from k 16 (f ++ zeros 2) h)
-      ∙ ap (part from k) (take_at f (zeros 2) 16 long)
+      ∙ ap (part from k) (take_at f (zeros 2) 16 field.sixteen)
 
   -- the word of the entry from an index on
   abbrev word : ℕ → List ℕ
@@ -72,25 +78,22 @@ module _ (n : ℕ) (f : List ℕ) (long : length f ≡ 16) (fits : n ≤ 16) (pa
     entry_two at us vs ys zs d e l m g h b =
         rw (entry_part at 4 b, part_two at 2 2 (longest n f), g, h) (put_then at (at + 2) us vs xs ys zs e d (omega arith) (omega arith))
 
-    module _ (bs : Bytes f) where
-      -- bytes of the key, as they are read and written
-      key_bytes_law : (from k r : ℕ) → r ≡ number (part from k f) → from + k ≤ 16 → part (2 + from) k (longest n f) ≡ bytes k r
-      key_bytes_law from k r e h = key_part from k h ∙ rw e (sym (bytes_in from k f bs (omega arith)))
+    pub entry_first : (ys zs : List ℕ) → ys ≡ put 0 (bytes 2 n) xs → zs ≡ put 2 (part 0 2 f) ys → zs ≡ put 0 (word 0) xs
+    unfolding part
+    entry_first ys zs d g =
+        let l = length_part 0 2 f (omega arith) in
+        entry_two 0 (bytes 2 n) (part 0 2 f) ys zs d g refl l refl (key_part 0 2 (omega arith)) (omega arith)
 
-      pub entry_first : (r : ℕ) (ys zs : List ℕ) → ys ≡ put 0 (bytes 2 n) xs → r ≡ number (part 0 2 f) → zs ≡ put 2 (bytes 2 r) ys → zs ≡ put 0 (word 0) xs
-      unfolding part
-      entry_first r ys zs d e g = entry_two 0 (bytes 2 n) (bytes 2 r) ys zs d g refl refl refl (key_bytes_law 0 2 r e (omega arith)) (omega arith)
+    pub entry_last : (ys zs : List ℕ) → ys ≡ put 16 (part 14 2 f) xs → zs ≡ put 18 (bytes 2 0) ys → 14 < n → zs ≡ put 16 (word 16) xs
+    unfolding part
+    entry_last ys zs d g l =
+        let m = length_part 14 2 f (omega arith) in
+        let v : part (2 + 16) 2 (longest n f) ≡ zeros 2 = ap (take 2) (drop_past (bytes 2 n) (f ++ zeros 2) 2 16 refl ∙ drop_at f (zeros 2) 16 field.sixteen) in
+        entry_two 16 (part 14 2 f) (bytes 2 0) ys zs d g m refl (key_part 14 2 (omega arith)) v (omega arith)
 
-      pub entry_last : (r : ℕ) (ys zs : List ℕ) → r ≡ number (part 14 2 f) → ys ≡ put 16 (bytes 2 r) xs → zs ≡ put 18 (bytes 2 0) ys → 14 < n
-          → zs ≡ put 16 (word 16) xs
-      unfolding part
-      entry_last r ys zs e d g l =
-          let v : part (2 + 16) 2 (longest n f) ≡ zeros 2 = ap (take 2) (drop_past (bytes 2 n) (f ++ zeros 2) 2 16 refl ∙ drop_at f (zeros 2) 16 long) in
-          entry_two 16 (bytes 2 r) (bytes 2 0) ys zs d g refl refl (key_bytes_law 14 2 r e (omega arith)) v (omega arith)
-
-      pub entry_word : (from r : ℕ) (ys : List ℕ) → r ≡ number (part from 4 f) → ys ≡ put (2 + from) (bytes 4 r) xs → from + 4 ≤ 16
-          → 2 + from + 4 ≤ entry_size n → ys ≡ put (2 + from) (word (2 + from)) xs
-      entry_word from r ys e w h g = rw (entry_part (2 + from) 4 g, key_bytes_law from 4 r e h) w
+    pub entry_word : (from : ℕ) (ys : List ℕ) → ys ≡ put (2 + from) (part from 4 f) xs → from + 4 ≤ 16 → 2 + from + 4 ≤ entry_size n
+        → ys ≡ put (2 + from) (word (2 + from)) xs
+    entry_word from ys w h g = rw (entry_part (2 + from) 4 g, key_part from 4 h) w
 
     -- an entry that ends before a word leaves it as it was
     pub entry_none : (at : ℕ) → entry_size n ≤ at → xs ≡ put at (word at) xs
@@ -108,13 +111,13 @@ module _ (n : ℕ) (f : List ℕ) (long : length f ≡ 16) (fits : n ≤ 16) (pa
         let all : take 20 k ≡ k = take_all 20 k (omega (arith, entry_long)) in
         rw all at (put_part 16 4 k xs d e t (put_part 12 4 k xs c d s (put_part 8 4 k xs b c r (put_part 4 4 k xs a b q p l) l) l) l)
 
--- ---- what the first entry of a rest of a page reads as, return by return of the code; and one that nothing refuses fits
+-- ---- what the first entry of a rest of a page reads as, return by return of the code
 
 -- the code lends the key as the part from 2 to 2 + n
 pub back : (n : ℕ) → 2 + n - 2 ≡ n
 back n = omega arith
 
-abbrev refusal : ℕ → PageEntry
+abbrev refusal : ℕ → Entry
 refusal n = record { number = n; len = 0 }
 
 pub first_short : (j : Key) (s : List ℕ) → length s < 2 → first_entry j s ≡ refusal 8
@@ -144,20 +147,6 @@ module _ (j : Key) (s : List ℕ) (n : ℕ) (e : n ≡ number (part 0 2 s)) (l :
         pub first_read : below j (part 2 (2 + n - 2) s) ≡ true → first_entry j s ≡ record { number = 0; len = n }
         unfolding first_entry entry_steps
         first_read h = rw (le-ltb (length s) 2 l, ← e, sized, ← f, le-ltb (length s) m fits, z, rw (back n) at h)
-
-pub record First (room n : ℕ) : Type 0 where
-  pub some : 0 < n
-  pub few : n ≤ 16
-  pub fits : entry_size n ≤ room
-
-pub first_fits : (j : Key) (s : List ℕ) → (first_entry j s).number ≡ 0 → First (length s) (first_entry j s).len
-unfolding first_entry entry_steps
-first_fits j s h =
-    let n = number (part 0 2 s) in
-    let r = none_holds (entry_steps j s) tt h in
-    let b = neither (eqb n 0) (ltb 16 n) r.1.0 in
-    let z = eqb-false n 0 b.0 in
-    rw h (record { some = omega arith; few = ltb-false 16 n b.1; fits = ltb-false (length s) (entry_size n) r.1.1.0 })
 
 -- ---- a page of rising keys is read back, whatever lies behind it
 

@@ -1,9 +1,10 @@
 -- The List page: a 4-byte count, then an entry for each key; and how a host reads it. Assumes nothing.
-use Rattle.std.specs.Prelude.{cond, not, ◌||◌, List, [], ◌∷◌, ◌++◌, ℕ, zero, suc, ◌+◌, ◌-◌, ◌*◌, ◌/◌, leb, ltb, eqb, length, drop}
+use Rattle.std.specs.Prelude.{cond, not, ◌||◌, List, [], ◌∷◌, ◌++◌, Result, Ok, Err, ℕ, zero, suc, ◌+◌, ◌-◌, ◌*◌, ◌/◌, leb, ltb, eqb, length, drop}
 use Rattle.octets.specs.Octets.{part, number, bytes, zeros, all_zero}
 use Rattle.keys.specs.Keys.{Key, below, from}
 use Rattle.octets.specs.Tests.{Row, row, first_of}
-use Rattle.sheets.specs.declared.pages.PageEntry.{PageEntry}
+use Rattle.refusals.specs.Refusals.{number_of}
+use Rattle.refusals.specs.declared.numbers.Refusal.{Refusal}
 
 -- the length of an entry whose key has n bytes: 2 + n, rounded up to a multiple of 4; and the zeros behind the key
 abbrev pub entry_size : ℕ → ℕ
@@ -47,10 +48,19 @@ entry_steps j s =
     ∷ []
 
 -- that number, and the length of the entry's key where it is 0
-unfoldable pub first_entry : Key → List ℕ → PageEntry
+pub record Entry : Type 0 where
+  pub number : ℕ
+  pub len : ℕ
+
+unfoldable pub first_entry : Key → List ℕ → Entry
 first_entry j s =
     let first = first_of (entry_steps j s) in
     record { number = first; len = cond (eqb first 0) (number (part 0 2 s)) 0 }
+
+-- what a function that reads an entry says of it
+abbrev pub entry_in : Result ℕ Refusal → Entry
+entry_in (Ok n) = record { number = 0; len = n }
+entry_in (Err r) = record { number = number_of r; len = 0 }
 
 -- what a page reads as: refused with a number, or its keys
 pub data Reading : Type 0 where

@@ -1,50 +1,34 @@
 // The entries of a List page, read.
-ghost use Rattle.std.specs.Prelude.{◌≡◌};
-ghost use Rattle.keys.specs.Keys.{is_less};
-ghost use Rattle.sheets.specs.Page.{first_entry};
+ghost use Rattle.std.specs.Prelude.{◌≡◌, ◌≤◌, length, IfOk};
+ghost use Rattle.sheets.specs.Page.{entry_size, entry_in, first_entry};
 
-use crate::pages::{PageEntry, page_entry_size};
-use keys::orders;
-use keys::orders::Order;
+use crate::pages::page_entry_size;
 use octets::{runs, words};
+use refusals::numbers::Refusal;
 
-fn refused(number: u32) -> PageEntry
-    ensures { result ≡ record { number = number; len = 0 } }
-{
-    PageEntry { number, len: 0 }
-}
-
-fn is_less(o: Order) -> bool
-    ensures { result ≡ is_less o }
-{
-    match o {
-        Order::Less => true,
-        Order::Equal => false,
-        Order::Greater => false,
-    }
-}
-
-// Numbers 8 to 11. What is before the first entry is the empty key.
-pub fn read_page_entry(rest: &[u8], before: &[u8]) -> PageEntry
-    ensures { result ≡ first_entry before.now rest.now }
+// The length of the entry's key. What is before the first entry is the empty key.
+pub fn read_page_entry(rest: &[u8], before: &[u8]) -> Result<usize, Refusal>
+    ensures value { entry_in result ≡ first_entry before.now rest.now }
+    ensures fits { IfOk result (λ n. (n ≤ 16) × (entry_size n ≤ length rest.now)) }
 {
     if rest.len() < 2 {
-        return refused(8);
+        return Err(Refusal::PageEntry);
     }
     let n = words::read16(rest, 0) as usize;
     if (n == 0) | (16 < n) {
-        return refused(9);
+        return Err(Refusal::PageKeyLength);
     }
     let size = page_entry_size(n);
     if rest.len() < size {
-        return refused(8);
+        return Err(Refusal::PageEntry);
     }
     let end = 2 + n;
     if !runs::all_zero(&rest[end..size]) {
-        return refused(10);
+        return Err(Refusal::PagePadding);
     }
-    if !is_less(orders::compare(before, &rest[2..end])) {
-        return refused(11);
+    let rising = before < &rest[2..end];
+    if !rising {
+        return Err(Refusal::PageOrder);
     }
-    PageEntry { number: 0, len: n }
+    Ok(n)
 }

@@ -13,55 +13,72 @@ pub fn page_entry_size(n: usize) -> usize
     (n + 5) / 4 * 4
 }
 
-// An entry is written word by word, each straight from the record and only where the entry reaches it, so that the compiler needs
-// no copy of the key and no loop over its bytes. A key of n bytes stands in sixteen with zeros behind it: the word that holds its
-// end holds the entry's zeros too.
-
-// The length, and the key's first two bytes.
-fn write_first(rest: &mut [u8], field: &[u8], n: usize)
-    requires { (length field.now ≡ 16) × (n ≤ 16) × (all_zero (drop n field.now) ≡ true) × (entry_size n ≤ length rest.old) }
-    ensures { rest.new ≡ put 0 (part 0 4 (page_entry (take n field.now))) rest.old }
+// All bytes of a word are read before one is written, so that the compiler moves them at once.
+fn copy16(key: &[u8], from: usize, rest: &mut [u8], at: usize)
+    requires { (from + 2 ≤ length key.now) × (at + 2 ≤ length rest.old) }
+    ensures { rest.new ≡ put at (part from 2 key.now) rest.old }
 {
-    words::write16(rest, 0, n as u16);
-    words::write16(rest, 2, words::read16(field, 0));
+    words::write16(rest, at, words::read16(key, from));
 }
 
-// Four bytes of the key, from an index on.
-fn write_word(rest: &mut [u8], field: &[u8], n: usize, from: usize)
-    requires { (length field.now ≡ 16) × (n ≤ 16) × (all_zero (drop n field.now) ≡ true) × (entry_size n ≤ length rest.old)
-        × (from ≤ 12) × (from % 4 ≡ 2) }
-    ensures { rest.new ≡ put (2 + from) (part (2 + from) 4 (page_entry (take n field.now))) rest.old }
+fn copy32(key: &[u8], from: usize, rest: &mut [u8], at: usize)
+    requires { (from + 4 ≤ length key.now) × (at + 4 ≤ length rest.old) }
+    ensures { rest.new ≡ put at (part from 4 key.now) rest.old }
 {
-    if from < n {
-        words::write32(rest, 2 + from, words::read32(field, from));
-    }
+    words::write32(rest, at, words::read32(key, from));
 }
 
-// The key's last two bytes; the zeros behind them stand in no record.
-fn write_last(rest: &mut [u8], field: &[u8], n: usize)
-    requires { (length field.now ≡ 16) × (n ≤ 16) × (all_zero (drop n field.now) ≡ true) × (entry_size n ≤ length rest.old) }
-    ensures { rest.new ≡ put 16 (part 16 4 (page_entry (take n field.now))) rest.old }
-{
-    if 14 < n {
-        words::write16(rest, 16, words::read16(field, 14));
-        words::write16(rest, 18, 0);
-    }
-}
-
-pub fn write_page_entry(rest: &mut [u8], field: &[u8], n: usize)
-    requires { (length field.now ≡ 16) × (n ≤ 16) × (all_zero (drop n field.now) ≡ true) × (entry_size n ≤ length rest.old) }
-    ensures { rest.new ≡ put 0 (page_entry (take n field.now)) rest.old }
-{
-    write_first(rest, field, n);
-    write_word(rest, field, n, 2);
-    write_word(rest, field, n, 6);
-    write_word(rest, field, n, 10);
-    write_last(rest, field, n);
-}
-
-// What a host reads of an entry: a house number, and where that is 0 the length of the entry's key.
+// A key as it stands in a record: in sixteen bytes, with zeros behind it.
 #[derive(Clone, Copy)]
-pub struct PageEntry {
-    pub number: u32,
+pub struct Field<'a> {
+    pub bytes: &'a [u8],
     pub len: usize,
+    pub ghost sixteen: { length bytes.now ≡ 16 },
+    pub ghost fits: { len ≤ 16 },
+    pub ghost clear: { all_zero (drop len bytes.now) ≡ true },
+}
+
+// An entry is written word by word, each straight from the record and only where the entry reaches it, so that the compiler needs
+// no copy of the key and no loop over its bytes. The word that holds the key's end holds the entry's zeros too.
+impl Field<'_> {
+    // The length, and the key's first two bytes.
+    fn write_first(&self, rest: &mut [u8])
+        requires { entry_size self.now.len ≤ length rest.old }
+        ensures { rest.new ≡ put 0 (part 0 4 (page_entry (take self.now.len self.now.bytes.now))) rest.old }
+    {
+        words::write16(rest, 0, self.len as u16);
+        copy16(self.bytes, 0, rest, 2);
+    }
+
+    // Four bytes of the key, from an index on.
+    fn write_word(&self, rest: &mut [u8], from: usize)
+        requires { (entry_size self.now.len ≤ length rest.old) × (from ≤ 12) × (from % 4 ≡ 2) }
+        ensures { rest.new ≡ put (2 + from) (part (2 + from) 4 (page_entry (take self.now.len self.now.bytes.now))) rest.old }
+    {
+        if from < self.len {
+            copy32(self.bytes, from, rest, 2 + from);
+        }
+    }
+
+    // The key's last two bytes; the zeros behind them stand in no record.
+    fn write_last(&self, rest: &mut [u8])
+        requires { entry_size self.now.len ≤ length rest.old }
+        ensures { rest.new ≡ put 16 (part 16 4 (page_entry (take self.now.len self.now.bytes.now))) rest.old }
+    {
+        if 14 < self.len {
+            copy16(self.bytes, 14, rest, 16);
+            words::write16(rest, 18, 0);
+        }
+    }
+
+    pub fn write_page_entry(&self, rest: &mut [u8])
+        requires { entry_size self.now.len ≤ length rest.old }
+        ensures { rest.new ≡ put 0 (page_entry (take self.now.len self.now.bytes.now)) rest.old }
+    {
+        self.write_first(rest);
+        self.write_word(rest, 2);
+        self.write_word(rest, 6);
+        self.write_word(rest, 10);
+        self.write_last(rest);
+    }
 }

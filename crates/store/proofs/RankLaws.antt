@@ -1,7 +1,8 @@
 -- The slot of a key among rising keys, and what the map does there. Assumes nothing.
 use Rattle.std.proofs.Common.{◌≡◌, ℕ, zero, suc, ◌+◌, ◌*◌, ◌<◌, ◌≤◌, true, false, ltb, List, [], ◌∷◌, length, get_or, take, drop, sym, refl, ap, ◌∙◌, arith, drop-drop, le-ltb, lt-ltb}
 use lib.Dec.{leb-suc-suc}
-use Rattle.keys.specs.Keys.{Key, order, is_less, is_equal, from}
+use Rattle.std.specs.Ordering.{is_lt, is_eq}
+use Rattle.keys.specs.Keys.{Key, order, from}
 use Rattle.octets.proofs.TestLaws.{contrary}
 use Rattle.keys.proofs.OrderLaws.{compared, less, equal, greater}
 use Rattle.keys.proofs.OrderLaws.{Below, Rising, order_eq, order_flip, below_trans, below_greater, greater_below, below_first_trans}
@@ -34,7 +35,7 @@ first_below j (k ∷ ks) zero r h = r.0
 first_below j (k ∷ ks) (suc i) r h = first_below j ks i (below_first_trans j k ks r.0 r.1.0, r.1.1) (omega arith)
 
 -- among rising keys those below k stand before its slot, and no others
-pub rank_test : (k : Key) (ks : List Key) (i : ℕ) → Rising ks → i < length ks → is_less (order (get_or ks i []) k) ≡ ltb i (rank k ks)
+pub rank_test : (k : Key) (ks : List Key) (i : ℕ) → Rising ks → i < length ks → is_lt (order (get_or ks i []) k) ≡ ltb i (rank k ks)
 rank_test k [] i r h = absurd (omega arith)
 rank_test k (j ∷ ks) zero r h =
     elim (compared k j) [
@@ -53,7 +54,7 @@ rank_test k (j ∷ ks) (suc i) r h =
       | greater e ↦ rw e (t ∙ sym (leb-suc-suc (suc i) (rank k ks)))
     ]
 
-pub has_at : (k : Key) (ks : List Key) → rank k ks < length ks → has_key k ks ≡ is_equal (order (get_or ks (rank k ks) []) k)
+pub has_at : (k : Key) (ks : List Key) → rank k ks < length ks → has_key k ks ≡ is_eq (order (get_or ks (rank k ks) []) k)
 has_at k [] h = absurd (omega arith)
 has_at k (j ∷ ks) h =
     let r = has_at k ks in

@@ -1,17 +1,13 @@
 -- What stands in the record of a pair, whatever stands behind it. Assumes nothing.
-use Rattle.std.proofs.Common.{◌≡◌, ℕ, ◌+◌, ◌-◌, ◌^◌, ◌<◌, ◌≤◌, List, ◌++◌, length, take, drop, sym, refl, ap, ◌∙◌, append_assoc, arith, length-append, take_at}
+use Rattle.std.proofs.Common.{◌≡◌, ℕ, ◌+◌, ◌-◌, ◌^◌, ◌<◌, ◌≤◌, List, ◌++◌, length, take, drop, refl, ap, ◌∙◌, append_assoc, arith, length-append, take_at}
 use lib.ListN.{length-replicate}
 use lib.Seq.{take-append_seam}
 use Rattle.octets.specs.Octets.{part, number, bytes, zeros, filled}
-use Rattle.octets.proofs.PartLaws.{part_drop, drop_past}
+use Rattle.octets.proofs.PartLaws.{drop_past}
 use Rattle.octets.proofs.NumberLaws.{number_bytes}
 use Rattle.octets.proofs.ZeroLaws.{length_filled}
 use Rattle.store.specs.Maps.{Pair}
 use Rattle.store.specs.Records.{record_of, key_length, place, value_length, owner}
-
--- a word of the record of a slot is one of the part
-pub word_at : (at k : ℕ) (s : List ℕ) {r : ℕ} → r ≡ number (part (at + k) 4 s) → r ≡ number (part k 4 (drop at s))
-word_at at k s e = e ∙ ap number (sym (part_drop at k 4 s))
 
 module _ (id at : ℕ) (p : Pair) (short : length p.key ≤ 16) where
   pub length_record : length (record_of id at p) ≡ 32

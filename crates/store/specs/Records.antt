@@ -6,6 +6,7 @@ use Rattle.std.specs.Prelude.{ℕ, zero, suc, ◌+◌, List, [], ◌∷◌, ◌+
 use Rattle.keys.specs.declared.orders.Wide.{Wide}
 use Rattle.octets.specs.Octets.{part, number, bytes, filled}
 use Rattle.keys.specs.Keys.{wide_of}
+use Rattle.store.specs.declared.records.Record.{Record}
 use Rattle.store.specs.Maps.{Pair, pair, values}
 
 -- ---- the image of pairs
@@ -40,10 +41,15 @@ value_length s = number (part 24 4 s)
 abbrev pub owner : List ℕ → ℕ
 owner s = number (part 28 4 s)
 
--- its key as numbers, and its value among the values vs
+-- its key as numbers
 abbrev pub wide_in : List ℕ → Wide
 wide_in s = wide_of (part 0 16 s) (key_length s)
 
+-- all that it says
+abbrev pub slot_in : List ℕ → Record
+slot_in s = record { key = wide_in s; key_length = key_length s; place = place s; value_length = value_length s; owner = owner s }
+
+-- its value among the values vs
 abbrev pub value_in : List ℕ → List ℕ → List ℕ
 value_in s vs = part (place s) (value_length s) vs
 

@@ -3,10 +3,11 @@ ghost use Rattle.std.specs.Prelude.{◌≡◌};
 ghost use Rattle.keys.specs.Keys.{Padded};
 ghost use Rattle.store.specs.Finds.{keys_in, found, KeysFit};
 
-use crate::records::wide_at;
-use keys::orders::{equal, less, widen};
+use crate::records::Record;
+use keys::orders::widen;
 
-// A key with the slot of the first record that is not below it, and whether that one holds it.
+// A key with the slot of the first record that is not below it, and whether that one holds it. The slot is wanted either way, to
+// write there or to list from there, so it stands beside `held` and in no variant.
 #[derive(Clone, Copy)]
 pub struct Found {
     pub key: [u8; 16],
@@ -15,7 +16,7 @@ pub struct Found {
     pub slot: u32,
 }
 
-// By halves, since the keys rise.
+// By halves, since the keys rise; by hand, since the records are bytes of a lent slice, and std searches slices of values.
 pub fn find(records: &[u8], count: u32, key: [u8; 16], len: u8) -> Found
     requires { KeysFit count records.now × Padded len key }
     ensures { result ≡ found key len (keys_in count records.now) }
@@ -25,24 +26,16 @@ pub fn find(records: &[u8], count: u32, key: [u8; 16], len: u8) -> Found
     let mut high = count;
     while low < high {
         let middle = (low + high) / 2;
-        if less(wide_at(records, middle), wanted) {
+        if Record::read(records, middle).key < wanted {
             low = middle + 1;
         } else {
             high = middle;
         }
     }
-    if low < count {
-        return Found {
-            key,
-            len,
-            held: equal(wide_at(records, low), wanted),
-            slot: low,
-        };
-    }
     Found {
         key,
         len,
-        held: false,
+        held: low < count && Record::read(records, low).key == wanted,
         slot: low,
     }
 }

@@ -4,9 +4,8 @@ ghost use Rattle.octets.specs.Octets.{put};
 ghost use Rattle.store.specs.Records.{value_length, value_in};
 ghost use Rattle.store.specs.Slots.{CanCopy};
 
-use crate::records::{place_at, value_length_at};
+use crate::records::Record;
 use octets::runs::copy;
-use octets::words::smaller;
 
 // The value of a slot is a part of the values that starts in their middle, handed on to the copying function: the smaller of
 // `amount` and its length. The answer is its whole length.
@@ -16,10 +15,10 @@ pub fn copy_value(records: &[u8], values: &[u8], slot: u32, buffer: &mut [u8], a
         × (buffer.new
         ≡ put 0 (take amount (value_in (drop (32 * slot) records.now) values.now)) buffer.old) }
 {
-    let place = place_at(records, slot) as usize;
-    let len = value_length_at(records, slot);
-    let moved = smaller(len, amount);
+    let record = Record::read(records, slot);
+    let place = record.place as usize;
+    let moved = record.value_length.min(amount);
     let stop = place + moved as usize;
     copy(&values[place..stop], buffer);
-    len
+    record.value_length
 }

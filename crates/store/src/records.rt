@@ -2,48 +2,38 @@
 ghost use Rattle.std.specs.Prelude.{◌≡◌, ◌+◌, ◌-◌, ◌*◌, ◌^◌, ◌<◌, ◌≤◌, length, drop};
 ghost use Rattle.octets.specs.Octets.{put};
 ghost use Rattle.store.specs.Maps.{pair};
-ghost use Rattle.store.specs.Records.{key_length, place, value_length, owner, wide_in, record_of};
+ghost use Rattle.store.specs.Records.{slot_in, record_of};
 ghost use Rattle.store.specs.Slots.{raised};
 
 use keys::orders::{Wide, widen};
 use octets::runs::{clear, copy_at};
 use octets::words::{read32, write32};
 
-pub fn key_length_at(records: &[u8], slot: u32) -> u32
-    requires { 32 * slot + 32 ≤ length records.now }
-    ensures { result ≡ key_length (drop (32 * slot) records.now) }
-{
-    read32(records, 32 * slot as usize + 16)
+// What a record says, its key as numbers. It is compiled into its callers, so that one who asks for a single field loads no other.
+#[derive(Clone, Copy)]
+pub struct Record {
+    pub key: Wide,
+    pub key_length: u32,
+    pub place: u32,
+    pub value_length: u32,
+    pub owner: u32,
 }
 
-pub fn place_at(records: &[u8], slot: u32) -> u32
-    requires { 32 * slot + 32 ≤ length records.now }
-    ensures { result ≡ place (drop (32 * slot) records.now) }
-{
-    read32(records, 32 * slot as usize + 20)
-}
-
-pub fn value_length_at(records: &[u8], slot: u32) -> u32
-    requires { 32 * slot + 32 ≤ length records.now }
-    ensures { result ≡ value_length (drop (32 * slot) records.now) }
-{
-    read32(records, 32 * slot as usize + 24)
-}
-
-pub fn owner_at(records: &[u8], slot: u32) -> u32
-    requires { 32 * slot + 32 ≤ length records.now }
-    ensures { result ≡ owner (drop (32 * slot) records.now) }
-{
-    read32(records, 32 * slot as usize + 28)
-}
-
-// The key as numbers.
-pub fn wide_at(records: &[u8], slot: u32) -> Wide
-    requires { 32 * slot + 32 ≤ length records.now }
-    ensures { result ≡ wide_in (drop (32 * slot) records.now) }
-{
-    let len = key_length_at(records, slot);
-    widen(records, 32 * slot as usize, len as u64)
+impl Record {
+    pub fn read(records: &[u8], slot: u32) -> Record
+        requires { 32 * slot + 32 ≤ length records.now }
+        ensures { result ≡ slot_in (drop (32 * slot) records.now) }
+    {
+        let at = 32 * slot as usize;
+        let key_length = read32(records, at + 16);
+        Record {
+            key: widen(records, at, key_length as u64),
+            key_length,
+            place: read32(records, at + 20),
+            value_length: read32(records, at + 24),
+            owner: read32(records, at + 28),
+        }
+    }
 }
 
 pub fn write_record(records: &mut [u8], slot: u32, id: u32, place: u32, key: &[u8], value: &[u8])
@@ -65,14 +55,8 @@ pub fn raise_places(records: &mut [u8], from: u32, to: u32, by: u32)
     requires { 32 * to ≤ length records.old }
     ensures { records.new ≡ raised by from (to - from) records.old }
 {
-    let mut j = from;
-    while j < to {
-        let place = place_at(records, j);
-        write32(
-            records,
-            32 * j as usize + 20,
-            std::num::wrapping_add_u32(place, by),
-        );
-        j += 1;
+    for j in from..to {
+        let place = Record::read(records, j).place;
+        write32(records, 32 * j as usize + 20, place.wrapping_add(by));
     }
 }

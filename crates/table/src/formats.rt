@@ -93,20 +93,12 @@ const FORMATS: [Format; 16] = [
     },
 ];
 
-// Document 01's rule, q = i / 4 rounded down, is proved once over the index. The rows are asked one after the other, each at an index that the
-// compiler knows once it has written the loop out: so the table stays with the program's constants, and no stack is taken to build it.
+// Document 01's rule, q = i / 4 rounded down, is proved once over the index. The rows are borrowed, as the compiler would build a table that is read
+// by value on the stack; so it stays with the program's constants.
 pub fn format_at(index: u32) -> Format
     requires { index < 16 }
     ensures { result ≡ format_of index }
 {
-    let rows = FORMATS;
-    let mut i: u32 = 0;
-    while i < 15 {
-        let row = rows[i as usize];
-        if i == index {
-            return row;
-        }
-        i += 1;
-    }
-    rows[15]
+    let rows = &FORMATS;
+    rows[index as usize]
 }

@@ -7,15 +7,15 @@ ghost use Rattle.store.specs.Records.{pairs_in};
 ghost use Rattle.store.specs.Parts.{Holds, inserted, erased};
 ghost use Rattle.verbs.specs.Verbs.{record_in, record_out, place_for, CanRecord, CanInsert, CanRemove, CanReplace};
 
-use octets::runs::{clear, copy_at, move_down, move_up};
-use store::records::{place_at, raise_places, value_length_at, write_record};
+use octets::runs::{clear, copy_at, slide};
+use store::records::{Record, raise_places, write_record};
 
 // A value put in at an index, before n bytes.
 fn insert_value(values: &mut [u8], at: usize, n: usize, value: &[u8])
     requires { at + length value.now + n ≤ length values.old }
     ensures { values.new ≡ put at (value.now ++ part at n values.old) values.old }
 {
-    move_up(values, at, n, at + value.len());
+    slide(values, at, n, at + value.len());
     copy_at(value, values, at);
 }
 
@@ -24,119 +24,103 @@ fn remove_value(values: &mut [u8], at: usize, k: usize, n: usize)
     requires { at + k + n ≤ length values.old }
     ensures { values.new ≡ put at (part (at + k) n values.old ++ zeros k) values.old }
 {
-    move_down(values, at + k, n, at);
+    slide(values, at + k, n, at);
     clear(values, at + n, k);
 }
 
-// A record put in at a slot of `count`, and the places behind it raised by its value's length.
-fn insert_record(
-    records: &mut [u8],
-    slot: u32,
-    count: u32,
-    id: u32,
-    place: u32,
-    key: &[u8],
-    value: &[u8],
-)
-    requires { CanRecord slot count key.now value.now records.old }
-    ensures { records.new
-        ≡ record_in id place (pair key.now value.now) slot (count - slot) records.old }
-{
-    let at = 32 * slot as usize;
-    move_up(records, at, 32 * (count - slot) as usize, at + 32);
-    write_record(records, slot, id, place, key, value);
-    raise_places(records, slot + 1, count + 1, value.len() as u32);
+// A slot of a namespace, by the numbers that a verb there goes by: the namespace's id, how many pairs it holds, and the sum of
+// their value lengths.
+#[derive(Clone, Copy)]
+pub struct Spot {
+    pub id: u32,
+    pub count: u32,
+    pub total: u32,
+    pub slot: u32,
 }
 
-// The record at a slot of `count` taken out, after a number is added to the places behind it.
-fn remove_record(records: &mut [u8], slot: u32, count: u32, by: u32)
-    requires { (slot < count) × (32 * count ≤ length records.old) }
-    ensures { records.new ≡ record_out by slot (count - (slot + 1)) records.old }
-{
-    raise_places(records, slot + 1, count, by);
-    remove_value(
-        records,
-        32 * slot as usize,
-        32,
-        32 * (count - (slot + 1)) as usize,
-    );
-}
-
-// Where the value of a slot begins or, behind the last slot, would.
-fn place_for(records: &[u8], slot: u32, count: u32, total: u32) -> u32
-    requires { 32 * count ≤ length records.now }
-    ensures { result ≡ place_for records.now slot count total }
-{
-    if slot < count {
-        return place_at(records, slot);
+impl Spot {
+    // A record put in, and the places behind it raised by its value's length.
+    fn insert_record(self, records: &mut [u8], place: u32, key: &[u8], value: &[u8])
+        requires { CanRecord self key.now value.now records.old }
+        ensures { records.new
+            ≡ record_in self.id place (pair key.now value.now) self.slot (self.count - self.slot) records.old }
+    {
+        let at = 32 * self.slot as usize;
+        slide(records, at, 32 * (self.count - self.slot) as usize, at + 32);
+        write_record(records, self.slot, self.id, place, key, value);
+        raise_places(records, self.slot + 1, self.count + 1, value.len() as u32);
     }
-    total
-}
 
-// A pair put in before the one at a slot; total is the sum of the value lengths.
-pub fn insert(
-    records: &mut [u8],
-    values: &mut [u8],
-    id: u32,
-    count: u32,
-    total: u32,
-    slot: u32,
-    key: &[u8],
-    value: &[u8],
-)
-    requires { CanInsert id count total slot key.now value.now records.old values.old }
-    ensures { Holds id (length records.old) (length values.old)
-        (inserted slot (pair key.now value.now) (pairs_in count records.old values.old))
-        records.new values.new }
-{
-    let place = place_for(records, slot, count, total);
-    insert_value(values, place as usize, (total - place) as usize, value);
-    insert_record(records, slot, count, id, place, key, value);
-}
+    // The record taken out, after a number is added to the places behind it.
+    fn remove_record(self, records: &mut [u8], by: u32)
+        requires { (self.slot < self.count) × (32 * self.count ≤ length records.old) }
+        ensures { records.new ≡ record_out by self.slot (self.count - (self.slot + 1)) records.old }
+    {
+        let behind = self.slot + 1;
+        raise_places(records, behind, self.count, by);
+        remove_value(
+            records,
+            32 * self.slot as usize,
+            32,
+            32 * (self.count - behind) as usize,
+        );
+    }
 
-pub fn remove(records: &mut [u8], values: &mut [u8], id: u32, count: u32, total: u32, slot: u32)
-    requires { CanRemove id count total slot records.old values.old }
-    ensures { Holds id (length records.old) (length values.old)
-        (erased slot (pairs_in count records.old values.old))
-        records.new values.new }
-{
-    let place = place_at(records, slot);
-    let len = value_length_at(records, slot);
-    remove_value(
-        values,
-        place as usize,
-        len as usize,
-        (total - place - len) as usize,
-    );
-    remove_record(records, slot, count, std::num::wrapping_sub_u32(0, len));
-}
+    // Where the value begins or, behind the last slot, would.
+    fn place(self, records: &[u8]) -> u32
+        requires { 32 * self.count ≤ length records.now }
+        ensures { result ≡ place_for records.now self }
+    {
+        if self.slot < self.count {
+            return Record::read(records, self.slot).place;
+        }
+        self.total
+    }
 
-// The pair at a slot taken out, and another put in there.
-pub fn replace(
-    records: &mut [u8],
-    values: &mut [u8],
-    id: u32,
-    count: u32,
-    total: u32,
-    slot: u32,
-    key: &[u8],
-    value: &[u8],
-)
-    requires { CanReplace id count total slot key.now value.now records.old values.old }
-    ensures { Holds id (length records.old) (length values.old)
-        (inserted slot (pair key.now value.now) (erased slot (pairs_in count records.old values.old)))
-        records.new values.new }
-{
-    let len = value_length_at(records, slot);
-    remove(records, values, id, count, total, slot);
-    insert(
-        records,
-        values,
-        id,
-        count - 1,
-        total - len,
-        slot,
-        key,
-        value,
-    );
+    // A pair put in before the one at the slot.
+    pub fn insert(self, records: &mut [u8], values: &mut [u8], key: &[u8], value: &[u8])
+        requires { CanInsert self key.now value.now records.old values.old }
+        ensures { Holds self.id (length records.old) (length values.old)
+            (inserted self.slot (pair key.now value.now) (pairs_in self.count records.old values.old))
+            records.new values.new }
+    {
+        let place = self.place(records);
+        insert_value(values, place as usize, (self.total - place) as usize, value);
+        self.insert_record(records, place, key, value);
+    }
+
+    pub fn remove(self, records: &mut [u8], values: &mut [u8])
+        requires { CanRemove self records.old values.old }
+        ensures { Holds self.id (length records.old) (length values.old)
+            (erased self.slot (pairs_in self.count records.old values.old))
+            records.new values.new }
+    {
+        let record = Record::read(records, self.slot);
+        let len = record.value_length;
+        remove_value(
+            values,
+            record.place as usize,
+            len as usize,
+            (self.total - record.place - len) as usize,
+        );
+        self.remove_record(records, len.wrapping_neg());
+    }
+
+    // The pair at the slot taken out, and another put in there.
+    pub fn replace(self, records: &mut [u8], values: &mut [u8], key: &[u8], value: &[u8])
+        requires { CanReplace self key.now value.now records.old values.old }
+        ensures { Holds self.id (length records.old) (length values.old)
+            (inserted self.slot (pair key.now value.now)
+            (erased self.slot (pairs_in self.count records.old values.old)))
+            records.new values.new }
+    {
+        let len = Record::read(records, self.slot).value_length;
+        self.remove(records, values);
+        let left = Spot {
+            count: self.count - 1,
+            total: self.total - len,
+            ..self
+        };
+        left.insert(records, values, key, value);
+    }
 }

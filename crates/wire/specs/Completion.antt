@@ -3,6 +3,7 @@ use Rattle.std.specs.Prelude.{not, List, ◌++◌, ℕ, ◌+◌, ◌*◌, ◌/�
 use Rattle.octets.specs.Octets.{part, number, bytes, zeros}
 use Rattle.octets.specs.Tests.{Row, row}
 use Rattle.wire.specs.declared.completions.Completion.{Completion}
+use Rattle.wire.specs.declared.completions.Post as posts
 
 -- the last two bytes: phase 0, status 8:1, type 11:9
 abbrev pub word : Completion → ℕ
@@ -37,16 +38,17 @@ read_completion s =
 abbrev pub not_completion : List ℕ → Row
 not_completion s = row (not (eqb (length s) 16)) 2
 
--- what the caller gives for a completion; of phase only the lowest bit counts
-pub record Post : Type 0 where
-  pub head : ℕ
-  pub queue : ℕ
-  pub phase : ℕ
+-- the code's struct: what the caller gives for a completion
+abbrev pub Post : Type 0
+Post = posts.Post
 
 abbrev pub post : ℕ → ℕ → ℕ → Post
 post head queue phase = record { head = head; queue = queue; phase = phase }
 
--- the completion of the command that has this identifier, with type 0
+-- the completion of the command that has this identifier, with type 0; of phase only the lowest bit counts
+abbrev pub completed : Post → ℕ → ℕ → ℕ → Completion
+completed p cid status dword0 =
+    record { dword0 = dword0; head = p.head; queue = p.queue; cid = cid; phase = p.phase % 2; status = status; kind = 0 }
+
 abbrev pub posted : Post → ℕ → ℕ → ℕ → List ℕ
-posted p cid status dword0 =
-    write_completion (record { dword0 = dword0; head = p.head; queue = p.queue; cid = cid; phase = p.phase % 2; status = status; kind = 0 })
+posted p cid status dword0 = write_completion (completed p cid status dword0)

@@ -1,9 +1,12 @@
 -- The entry, 64 bytes, and the table of opcodes. Assumes nothing.
-use Rattle.std.specs.Prelude.{Bool, not, ◌&&◌, ◌||◌, List, [], ◌∷◌, ◌++◌, ℕ, ◌/◌, ◌%◌, eqb, length, take, drop, get_or}
+use Rattle.std.specs.Prelude.{◌≡◌, Bool, false, not, ◌&&◌, ◌||◌, List, [], ◌∷◌, ◌++◌, ℕ, ◌/◌, ◌%◌, eqb, length, take, drop, get_or, Result, MatchResult}
 use Rattle.octets.specs.Octets.{part, number, bytes, zeros, all_zero}
 use Rattle.keys.specs.Keys.{Key}
 use Rattle.octets.specs.Tests.{Row, row}
 use Rattle.wire.specs.declared.entries.Command.{Command}
+use Rattle.wire.specs.declared.entries.Opcode.{Opcode}
+use Rattle.wire.specs.declared.entries.Opcode.TheVariants.{Store, Retrieve, List as ListKeys, Delete, Exist}
+use Rattle.wire.specs.declared.entries.UnknownOpcode.{UnknownOpcode}
 
 -- what an entry says
 unfoldable pub read_command : List ℕ → Command
@@ -57,6 +60,18 @@ is_exist op = eqb op 0x14
 
 abbrev pub known : ℕ → Bool
 known op = is_store op || is_retrieve op || is_list op || is_delete op || is_exist op
+
+-- the byte that stands for an opcode
+abbrev pub byte_of : Opcode → ℕ
+byte_of Store = 0x01
+byte_of Retrieve = 0x02
+byte_of ListKeys = 0x06
+byte_of Delete = 0x10
+byte_of Exist = 0x14
+
+-- the result is the opcode that the byte stands for, or the byte stands for none
+abbrev pub Names : ℕ → Result Opcode UnknownOpcode → Type 0
+Names op r = MatchResult r (λ o. byte_of o ≡ op) (λ _. known op ≡ false)
 
 -- options of a Store: bit 0 wants the key to be there, bit 1 wants it not to be
 abbrev pub if_present : Command → Bool

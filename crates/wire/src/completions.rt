@@ -1,6 +1,6 @@
 // The 16-byte completion. Shifts and masks join the parts of its last word and take it apart.
-ghost use Rattle.std.specs.Prelude.{◌≡◌, ◌<◌, length};
-ghost use Rattle.wire.specs.Completion.{word, phase_in, status_in, kind_in, write_completion, read_completion};
+ghost use Rattle.std.specs.Prelude.{◌≡◌, ◌<◌};
+ghost use Rattle.wire.specs.Completion.{word, phase_in, status_in, kind_in, write_completion, read_completion, completed};
 
 use octets::words;
 
@@ -14,6 +14,30 @@ pub struct Completion {
     pub phase: u8,
     pub status: u8,
     pub kind: u8,
+}
+
+// What the caller gives for a completion.
+#[derive(Clone, Copy)]
+pub struct Post {
+    pub head: u16,
+    pub queue: u16,
+    pub phase: u16,
+}
+
+impl Post {
+    pub fn completion(self, cid: u16, status: u8, dword0: u32) -> Completion
+        ensures { result ≡ completed self cid status dword0 }
+    {
+        Completion {
+            dword0,
+            head: self.head,
+            queue: self.queue,
+            cid,
+            phase: (self.phase % 2) as u8,
+            status,
+            kind: 0,
+        }
+    }
 }
 
 // A phase above 1 counts by its lowest bit.
@@ -42,8 +66,8 @@ fn kind_of(w: u16) -> u8
     ((w >> 9) & 7) as u8
 }
 
-pub fn write_completion(completion: &mut [u8], c: Completion)
-    requires { (length completion.old ≡ 16) × (c.kind < 8) }
+pub fn write_completion(completion: &mut [u8; 16], c: Completion)
+    requires { c.kind < 8 }
     ensures { completion.new ≡ write_completion c }
 {
     let word = pack(c);
@@ -55,8 +79,7 @@ pub fn write_completion(completion: &mut [u8], c: Completion)
     words::write16(completion, 14, word);
 }
 
-pub fn read_completion(completion: &[u8]) -> Completion
-    requires { length completion.now ≡ 16 }
+pub fn read_completion(completion: &[u8; 16]) -> Completion
     ensures { result ≡ read_completion completion.now }
 {
     let word = words::read16(completion, 14);

@@ -1,21 +1,41 @@
 // The 64-byte entry.
-ghost use Rattle.std.specs.Prelude.{◌≡◌, length};
+ghost use Rattle.std.specs.Prelude.{◌≡◌, eqb};
 ghost use Rattle.octets.specs.Octets.{put};
-ghost use Rattle.wire.specs.Entry.{read_command, write_command, front_of, dwords_of};
+ghost use Rattle.wire.specs.Entry.{byte_of, Names, read_command, write_command, front_of, dwords_of};
 
 use octets::{runs, words};
 
-pub const STORE: u8 = 0x01;
+#[derive(Clone, Copy, PartialEq, Eq)]
+pub enum Opcode {
+    Store = 0x01,
+    Retrieve = 0x02,
+    List = 0x06,
+    Delete = 0x10,
+    Exist = 0x14,
+}
 
-pub const RETRIEVE: u8 = 0x02;
+// The byte is no opcode's.
+#[derive(Clone, Copy, PartialEq, Eq)]
+pub struct UnknownOpcode;
 
-pub const LIST: u8 = 0x06;
+impl TryFrom<u8> for Opcode {
+    type Error = UnknownOpcode;
 
-pub const DELETE: u8 = 0x10;
+    ghost try_from_gives = { Names };
 
-pub const EXIST: u8 = 0x14;
+    fn try_from(byte: u8) -> Result<Opcode, UnknownOpcode> {
+        match byte {
+            0x01 => Ok(Opcode::Store),
+            0x02 => Ok(Opcode::Retrieve),
+            0x06 => Ok(Opcode::List),
+            0x10 => Ok(Opcode::Delete),
+            0x14 => Ok(Opcode::Exist),
+            _ => Err(UnknownOpcode),
+        }
+    }
+}
 
-// What an entry says; the key is the first `len` of its sixteen bytes, amount is Dword 10.
+// What an entry says; the key is the first `len` of its sixteen bytes, amount is Dword 10. The opcode is the entry's byte, known or not.
 #[derive(Clone, Copy)]
 pub struct Command {
     pub opcode: u8,
@@ -28,8 +48,15 @@ pub struct Command {
     pub amount: u32,
 }
 
-pub fn read_entry(entry: &[u8]) -> Command
-    requires { length entry.now ≡ 64 }
+impl Command {
+    pub fn is(self, opcode: Opcode) -> bool
+        ensures { result ≡ eqb self.opcode (byte_of opcode) }
+    {
+        self.opcode == opcode as u8
+    }
+}
+
+pub fn read_entry(entry: &[u8; 64]) -> Command
     ensures { result ≡ read_command entry.now }
 {
     let mut key = [0u8; 16];
@@ -48,8 +75,7 @@ pub fn read_entry(entry: &[u8]) -> Command
 }
 
 // Three functions write an entry, as the prover's search reaches back over about six writes.
-fn write_front(entry: &mut [u8], c: Command)
-    requires { length entry.old ≡ 64 }
+fn write_front(entry: &mut [u8; 64], c: Command)
     ensures { entry.new ≡ put 0 (front_of c) entry.old }
 {
     words::write8(entry, 0, c.opcode);
@@ -58,8 +84,7 @@ fn write_front(entry: &mut [u8], c: Command)
     words::write32(entry, 4, c.nsid);
 }
 
-fn write_dwords(entry: &mut [u8], c: Command)
-    requires { length entry.old ≡ 64 }
+fn write_dwords(entry: &mut [u8; 64], c: Command)
     ensures { entry.new ≡ put 40 (dwords_of c) entry.old }
 {
     words::write32(entry, 40, c.amount);
@@ -68,8 +93,7 @@ fn write_dwords(entry: &mut [u8], c: Command)
     runs::clear(entry, 46, 10);
 }
 
-pub fn write_entry(entry: &mut [u8], c: Command)
-    requires { length entry.old ≡ 64 }
+pub fn write_entry(entry: &mut [u8; 64], c: Command)
     ensures { entry.new ≡ write_command c }
 {
     let key = c.key;

@@ -44,6 +44,8 @@ module _ {at : ℕ} {bs xs : List ℕ} where
         is = rw (e, n, add-one) (put_next (at + 2 * i) (hex_byte b) vs ys (omega arith) ∙ rw (drop-cons bs i 0 h, line_cons) at w.is);
       }
 
-  pub written_done : {i : ℕ} {ys : List ℕ} → Written at bs xs i ys → length bs ≤ i → set ys (at + 2 * i) 10 ≡ put at (line bs) xs
+  pub written_done : {i : ℕ} {ys : List ℕ} → Written at bs xs i ys → length bs ≤ i → set ys (at + 2 * length bs) 10 ≡ put at (line bs) xs
   unfolding line
-  written_done {i} {ys} w h = put_one (at + 2 * i) 10 ys (omega arith) ∙ rw (drop_of_length-le bs h) at w.is
+  written_done {i} {ys} w h =
+      let n : at + 2 * length bs ≡ at + 2 * i = omega arith in
+      rw n (put_one (at + 2 * i) 10 ys (omega arith) ∙ rw (drop_of_length-le bs h) at w.is)

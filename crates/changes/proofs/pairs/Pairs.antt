@@ -16,6 +16,7 @@ use Rattle.store.specs.Namespace.{Namespace, with_pairs}
 use Rattle.store.specs.Records.{pairs_in}
 use Rattle.store.specs.Parts.{Holds as Parts, inserted, erased}
 use Rattle.store.specs.Finds.{found_key}
+use Rattle.verbs.specs.declared.slots.Spot.{Spot}
 use Rattle.verbs.specs.Verbs.{CanInsert, CanRemove, CanReplace}
 use Rattle.store.proofs.NamespaceLaws.{Within, within_true}
 use Rattle.store.proofs.CountLaws.{insert_used, erase_within}
@@ -79,6 +80,10 @@ module _ {k : Checked} {d v : List ℕ} (g : Legal k d v) (f : List Pair → Lis
       parts_image g.before g.behind g.space g.is (holds_in g) g.all q
       (subst (λ (s : Namespace). Within (with_pairs s m)) (at_is g) limits)
 
+-- where the verbs work
+abbrev pub spot_of : Checked → Found → Spot
+spot_of k f = record { id = k.label.id; count = k.label.count; total = k.total; slot = f.slot }
+
 -- ---- erase
 
 module _ {k : Checked} {f : Found} {d v : List ℕ} (c : CanErase k f d v) where
@@ -88,7 +93,7 @@ module _ {k : Checked} {f : Found} {d v : List ℕ} (c : CanErase k f d v) where
   inside : f.slot < length old
   inside = slot_lt old c.looked c.held
 
-  pub can_remove : CanRemove k.label.id k.label.count k.total f.slot (records_at k d) (values_at k v)
+  pub can_remove : CanRemove (spot_of k f) (records_at k d) (values_at k v)
   can_remove = record { standing = standing_in c.legal; slot = omega (arith, inside, count_is c.legal) }
 
   pub erased_image : {d' r w : List ℕ} {u : ℕ} → u ≡ k.label.used - room_at k f d
@@ -147,7 +152,7 @@ module _ {k : Checked} {f : Found} {x d v : List ℕ} (c : CanPut k f x d v) whe
     fewer : (length rest ≡ length m - 1) × (f.slot ≤ length rest)
     fewer = let l = length_erased f.slot m (inside erases) in (l, omega (arith, inside erases))
 
-    pub can_replace : CanReplace k.label.id k.label.count k.total f.slot (found_key f) x (records_at k d) (values_at k v)
+    pub can_replace : CanReplace (spot_of k f) (found_key f) x (records_at k d) (values_at k v)
     can_replace =
         let old = value_length_at (part_is c.legal).holds f.slot (inside erases) in
         let sum = values_erased f.slot m (inside erases) in
@@ -171,7 +176,7 @@ module _ {k : Checked} {f : Found} {x d v : List ℕ} (c : CanPut k f x d v) whe
     more : length (insert (found_key f) x m) ≡ k.label.count + 1
     more = ap length added ∙ omega (arith, length_inserted f.slot p m (slot_le m c.looked), count_is c.legal)
 
-    pub can_insert : CanInsert k.label.id k.label.count k.total f.slot (found_key f) x (records_at k d) (values_at k v)
+    pub can_insert : CanInsert (spot_of k f) (found_key f) x (records_at k d) (values_at k v)
     can_insert =
         let g = c.legal in
         let i = ap (λ (h : Label). slots h.index) (label_is g) in

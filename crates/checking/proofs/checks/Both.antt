@@ -1,13 +1,14 @@
 -- The two halves together: what `check` answers, one law for each way out. Assumes nothing.
 use mathlib.Core.Path.{◌≡◌, refl, sym, ap, ap₂, ◌∙◌}
-use mathlib.Core.Bool.{Bool, true, false, cond, not, ◌||◌}
+use mathlib.Core.Bool.{Bool, true, false, cond, ◌||◌}
 use mathlib.Core.List.{List, [], ◌∷◌, ◌++◌}
+use Rattle.std.specs.Prelude.{Option, Some, None}
 use Prim.Native.Nat.{ℕ, ◌+◌, ◌*◌, ◌≤◌, ◌<◌}
 use native.Mathlib.Nat.{add-zero, zero-add}
 use native.Mathlib.Omega.{arith}
 use lib.Dec.{ltb, eqb}
 use lib.ListN.{length, take, drop, length-take, length-drop}
-use borrow.Author.Tests.{eqb-false, eq-eqb, ne_eqb, not-true, not-false, ltb-false, le-ltb}
+use borrow.Author.Tests.{eqb-false, eq-eqb, ne_eqb, not-true, ltb-false, le-ltb}
 use Rattle.octets.specs.Octets.{part, number, zeros, all_zero}
 use Rattle.octets.specs.Tests.{all}
 use Rattle.octets.proofs.TestLaws.{refuted, contrary, neither, known, holds, fails, All, all_true, true_all}
@@ -23,34 +24,45 @@ use Rattle.memory.proofs.LimitLaws.{Within, one_within, apart_two}
 use Rattle.memory.proofs.ImageLaws.{Holds, holds_back, holds_legal, legal_holds}
 use Rattle.memory.proofs.PlaceLaws.{parts_hold, half_held, label_held, part_held, directory_long, head_held}
 use Rattle.checking.specs.declared.checks.Checked.{Checked}
-use Rattle.checking.specs.Checks.{not_legal, numbers_at, checked, CanSee, half_tests, half_checked}
+use Rattle.checking.specs.Checks.{numbers_at, checked, CanSee, half_tests, half_checked}
 use Rattle.checking.proofs.checks.Halves.{Stands, tests_stand, stand_tests}
 
 -- ---- one half
 
-module _ (half start base : ℕ) (m : Memory) {k : Checked} (e : k ≡ half_checked half start base m) where
-  pub half_ok : k.ok ≡ true → All (half_tests half start base m) × (k ≡ numbers_at half start base (namespace_at half start base m))
+module _ (half start base : ℕ) (m : Memory) where
+  pub half_ok : {k : Checked} → Some k ≡ half_checked half start base m
+      → All (half_tests half start base m) × (k ≡ numbers_at half start base (namespace_at half start base m))
   unfolding half_checked
-  half_ok ok = go (all (half_tests half start base m)) refl
-    where
-      go : (x : Bool) → all (half_tests half start base m) ≡ x
-          → All (half_tests half start base m) × (k ≡ numbers_at half start base (namespace_at half start base m))
-      go true q = (all_true (half_tests half start base m) q, rw q at e)
-      go false q = absurd (contrary (sym (ap (λ (x : Checked). x.ok) (rw q at e)) ∙ ok))
+  half_ok {k} e =
+      elim (known (all (half_tests half start base m))) [
+        | holds q ↦
+            let i = rw q at e in
+            (all_true (half_tests half start base m) q, cc i)
+        | fails q ↦
+            let i = rw q at e in
+            absurd (cc i)
+      ]
 
-  pub half_not : k.ok ≡ false → All (half_tests half start base m) → ⊥
+  pub half_not : None ≡ half_checked half start base m → All (half_tests half start base m) → ⊥
   unfolding half_checked
-  half_not f t = contrary (sym f ∙ ap (λ (x : Checked). x.ok) (rw (true_all (half_tests half start base m) t) at e))
+  half_not e t =
+      let i = rw (true_all (half_tests half start base m) t) at e in
+      cc i
 
 -- ---- two halves
 
--- the second is not one, or the two cannot stand side by side
+-- the two cannot stand side by side
 abbrev clash : Checked → Checked → Bool
-clash k t = not t.ok || eqb k.label.id t.label.id || ltb 65536 (k.label.size + t.label.size)
+clash k t = eqb k.label.id t.label.id || ltb 65536 (k.label.size + t.label.size)
 
 -- of two that can, the one that n names, else the first
-abbrev chosen : ℕ → Checked → Checked → Checked
-chosen n k t = cond (clash k t) not_legal (cond (eqb t.label.id n) t k)
+abbrev chosen : ℕ → Checked → Option Checked → Option Checked
+chosen n k None = None
+chosen n k (Some t) = cond (clash k t) None (cond (eqb t.label.id n) (Some t) (Some k))
+
+some_chosen : (b : Bool) (k t : Checked) → cond b (Some t) (Some k) ≡ Some (cond b t k)
+some_chosen true k t = refl
+some_chosen false k t = refl
 
 -- ---- the head of one and of two
 
@@ -127,7 +139,7 @@ module _ (d v : List ℕ) where
 
   -- ---- the ways out of `check`
 
-  refuse : (n : ℕ) → (Holds (namespaces_of m) m → ⊥) → not_legal ≡ checked n m
+  refuse : (n : ℕ) → (Holds (namespaces_of m) m → ⊥) → None ≡ checked n m
   unfolding checked
   refuse n q = rw (refuted (legal m) (λ e. q (legal_holds m e)))
 
@@ -153,69 +165,77 @@ module _ (d v : List ℕ) where
               | fails y ↦
                   let g = neither _ _ y in
                   let h = two_holds bs l f (all_true seconds x) (eqb-false _ _ g.0) (ltb-false _ _ g.1) in
-                  rw (x, y, holds_legal h, holds_back h, add-zero (slots_of s), add-zero s.size)
+                  rw (x, y, holds_legal h, holds_back h, add-zero (slots_of s), add-zero s.size) (some_chosen (eqb t.id n) _ _)
             ]
       ]
 
-  pub check_short : (n : ℕ) → length d < 64 → not_legal ≡ checked n m
+  pub check_short : (n : ℕ) → length d < 64 → None ≡ checked n m
   check_short n l = refuse n (λ h. omega (arith, directory_long h))
 
-  module _ (n : ℕ) {k : Checked} (e : k ≡ half_checked 0 64 0 m) where
-    pub check_first : not k.ok ≡ true → not_legal ≡ checked n m
-    check_first q = refuse n (λ h. half_not 0 64 0 m e (not-true k.ok q) (first_tests h))
+  pub check_first : (n : ℕ) → None ≡ half_checked 0 64 0 m → None ≡ checked n m
+  check_first n e = refuse n (λ h. half_not 0 64 0 m e (first_tests h))
 
-    module _ (o : not k.ok ≡ false) {r : ℕ} (er : r ≡ number (part 32 4 d)) where
-      first_ok : All (half_tests 0 64 0 m) × (k ≡ numbers_at 0 64 0 s)
-      first_ok = half_ok 0 64 0 m e (not-false k.ok o)
+  module _ (n : ℕ) {k : Checked} (e : Some k ≡ half_checked 0 64 0 m) {r : ℕ} (er : r ≡ number (part 32 4 d)) where
+    first_ok : All (half_tests 0 64 0 m) × (k ≡ numbers_at 0 64 0 s)
+    first_ok = half_ok 0 64 0 m e
 
-      id_is : t.id ≡ r
-      unfolding namespace_at label_in
-      id_is = ap number (part_inside 32 32 0 4 d (omega arith)) ∙ sym er
+    id_is : t.id ≡ r
+    unfolding namespace_at label_in
+    id_is = ap number (part_inside 32 32 0 4 d (omega arith)) ∙ sym er
 
-      -- what the second half needs
-      pub first_behind : 64 ≤ length d → CanSee 32 k.end k.label.size d v
-      unfolding namespace_at part
-      first_behind l =
-          let p = legal_part (label_at 0 d) _ _ first_ok.0.1.0 in
-          let a = length-take (32 * slots_of s) (drop 64 d) in
-          let b = length-take s.size (drop 0 v) in
-          rw first_ok.1 (record {
-            head = omega arith;
-            directory = l;
-            records = omega (arith, records_long p.holds, a, length-drop 64 d);
-            values = omega (arith, values_long p.holds, b, length-drop 0 v);
-          })
+    -- what the second half needs
+    pub first_behind : 64 ≤ length d → CanSee 32 k.end k.label.size d v
+    unfolding namespace_at part
+    first_behind l =
+        let p = legal_part (label_at 0 d) _ _ first_ok.0.1.0 in
+        let a = length-take (32 * slots_of s) (drop 64 d) in
+        let b = length-take s.size (drop 0 v) in
+        rw first_ok.1 (record {
+          head = omega arith;
+          directory = l;
+          records = omega (arith, records_long p.holds, a, length-drop 64 d);
+          values = omega (arith, values_long p.holds, b, length-drop 0 v);
+        })
 
-      -- ---- one namespace
+    -- ---- one namespace
 
-      module _ (z : r ≡ 0) {y : Bool} (ey : y ≡ all_zero (take 32 (drop 32 d))) where
-        alone : namespaces_of m ≡ s ∷ []
-        alone = one_there (eq-eqb t.id 0 (id_is ∙ z))
+    module _ (z : r ≡ 0) {y : Bool} (ey : y ≡ all_zero (take 32 (drop 32 d))) where
+      alone : namespaces_of m ≡ s ∷ []
+      alone = one_there (eq-eqb t.id 0 (id_is ∙ z))
 
-        pub check_rest : not y ≡ true → not_legal ≡ checked n m
-        unfolding part
-        check_rest q = refuse n (λ h. contrary (sym (not-true y q) ∙ ey ∙ rest_zero (rw alone at h)))
+      pub check_rest : y ≡ false → None ≡ checked n m
+      unfolding part
+      check_rest q = refuse n (λ h. contrary (sym q ∙ ey ∙ rest_zero (rw alone at h)))
 
-        pub check_one : not y ≡ false → Bytes d → 64 ≤ length d → k ≡ checked n m
-        unfolding checked part
-        check_one q bs l =
-            let h = one_holds bs l first_ok.0 (sym ey ∙ not-false y q) in
-            rw (holds_legal h, holds_back h) first_ok.1
+      pub check_one : y ≡ true → Bytes d → 64 ≤ length d → Some k ≡ checked n m
+      unfolding checked part
+      check_one q bs l =
+          let h = one_holds bs l first_ok.0 (sym ey ∙ q) in
+          rw (holds_legal h, holds_back h) (ap Some first_ok.1)
 
-      -- ---- two
+    -- ---- two
 
-      module _ (z : ¬ (r ≡ 0)) {u : Checked} (eu : u ≡ half_checked 32 k.end k.label.size m) (bs : Bytes d) (l : 64 ≤ length d) where
-        both_checked : chosen n k u ≡ checked n m
-        both_checked =
-            ap (chosen n k) eu
-            ∙ ap (λ (x : Checked). chosen n x (half_checked 32 x.end x.label.size m)) first_ok.1
-            ∙ both_is n (ne_eqb t.id 0 (λ q. z (sym id_is ∙ q))) bs l first_ok.0
+    module _ (z : ¬ (r ≡ 0)) {o : Option Checked} (eo : o ≡ half_checked 32 k.end k.label.size m) (bs : Bytes d) (l : 64 ≤ length d) where
+      both_checked : chosen n k o ≡ checked n m
+      both_checked =
+          ap (chosen n k) eo
+          ∙ ap (λ (x : Checked). chosen n x (half_checked 32 x.end x.label.size m)) first_ok.1
+          ∙ both_is n (ne_eqb t.id 0 (λ q. z (sym id_is ∙ q))) bs l first_ok.0
 
-        pub check_clash : clash k u ≡ true → not_legal ≡ checked n m
-        check_clash c = rw c at both_checked
+      pub check_second : o ≡ None → None ≡ checked n m
+      check_second q = rw q at both_checked
 
-        pub check_named : clash k u ≡ false → u.label.id ≡ n → u ≡ checked n m
-        check_named c q = rw (c, eq-eqb u.label.id n q) at both_checked
+      module _ {u : Checked} (q : o ≡ Some u) where
+        with_second : chosen n k (Some u) ≡ checked n m
+        with_second = rw q at both_checked
 
-        pub check_other : clash k u ≡ false → ¬ (u.label.id ≡ n) → k ≡ checked n m
-        check_other c q = rw (c, ne_eqb u.label.id n q) at both_checked
+        pub check_clash : clash k u ≡ true → None ≡ checked n m
+        check_clash c = rw c at with_second
+
+        pub check_named : clash k u ≡ false → u.label.id ≡ n → Some u ≡ checked n m
+        check_named c i = rw (c, eq-eqb u.label.id n i) at with_second
+
+        pub check_other : clash k u ≡ false → ¬ (u.label.id ≡ n) → Some k ≡ checked n m
+        check_other c i = rw (c, ne_eqb u.label.id n i) at with_second
+
+pub ruleset both_laws = (check_short, check_first, first_behind, check_rest, check_one, check_second, check_clash, check_named, check_other)

@@ -1,33 +1,37 @@
 -- One half of the head with its parts: what `check_half` answers, one law for each way out; and what its tests say of a namespace. Assumes nothing.
 use mathlib.Core.Path.{◌≡◌, sym, ap, ◌∙◌}
-use mathlib.Core.Bool.{Bool, true, false, not, ◌||◌}
+use mathlib.Core.Bool.{Bool, true, false, ◌||◌}
 use mathlib.Core.List.{List, ◌++◌}
+use Rattle.std.specs.Prelude.{Some, None, Result, Ok, Err}
+use Rattle.std.specs.Result.{result_ok, IfOk}
 use Prim.Native.Nat.{ℕ, ◌+◌, ◌-◌, ◌*◌, ◌≤◌}
 use native.Mathlib.Omega.{arith}
-use lib.Dec.{ltb, eqb}
+use lib.Dec.{ltb}
 use lib.ListN.{length, take, drop, length-take, length-drop}
-use borrow.Author.Tests.{eqb-true, eq-eqb, not-true, not-false, ltb-false, le-ltb, le-leb}
+use borrow.Author.Tests.{eqb-true, eqb-false, eq-eqb, ltb-false, le-ltb}
+use Rattle.refusals.specs.declared.numbers.Refusal.{Refusal}
+use Rattle.refusals.specs.Refusals.{number_in}
+use Rattle.refusals.proofs.Counted.{number_counts}
 use Rattle.octets.specs.Octets.{part, number, bytes, zeros, all_zero}
-use Rattle.octets.specs.Tests.{all}
+use Rattle.octets.specs.Tests.{all, first_of}
 use Rattle.octets.proofs.TestLaws.{refuted, contrary, neither, All, all_true, true_all}
 use Rattle.octets.proofs.PartLaws.{length_part, part_two, part_inside, part_whole}
 use Rattle.octets.proofs.NumberLaws.{Bytes, bytes_in, bytes_part}
 use Rattle.octets.proofs.ZeroLaws.{all_zeros}
 use Rattle.store.specs.declared.namespaces.Label.{Label}
 use Rattle.legal.specs.declared.checks.Sums.{Sums}
+use Rattle.table.specs.declared.formats.Format.{Format}
 use Rattle.table.specs.Formats.{format_of, slots}
 use Rattle.store.specs.Maps.{used}
-use Rattle.store.specs.Namespace.{Namespace}
+use Rattle.store.specs.Namespace.{Namespace, permit_steps}
 use Rattle.store.specs.Records.{pairs_in}
-use Rattle.legal.specs.Checks.{Checkable, part_legal, part_sums}
+use Rattle.legal.specs.Checks.{part_legal, sums_of, part_sums}
 use Rattle.store.proofs.NamespaceLaws.{Permitted, no_number, permitted as permits, Within as One}
 use Rattle.store.proofs.PartsLaws.{length_pairs, records_long, values_long, pairs_held}
 use Rattle.legal.proofs.LegalLaws.{Legal, legal_part, part_legal_law, sums_legal}
-use Rattle.memory.specs.declared.permits.Permission.{Permission}
 use Rattle.memory.specs.Memory.{Memory, memory, half_of, label_of, half_for, label_in, label_at, records_in, values_in, namespace_at}
-use Rattle.memory.specs.Permits.{permitted}
 use Rattle.memory.proofs.PlaceLaws.{Lies}
-use Rattle.checking.specs.Checks.{not_legal, CanSee, half_tests, half_checked}
+use Rattle.checking.specs.Checks.{CanSee, half_tests, half_checked}
 
 -- ---- what the tests say
 
@@ -88,7 +92,7 @@ module _ {half start base : ℕ} {d v : List ℕ} (c : CanSee half start base d 
   abbrev tests : List Bool
   tests = half_tests half start base (memory d v)
 
-  refuse : (All tests → ⊥) → not_legal ≡ half_checked half start base (memory d v)
+  refuse : (All tests → ⊥) → None ≡ half_checked half start base (memory d v)
   unfolding half_checked
   refuse n = rw (refuted (all tests) (λ e. n (all_true tests e)))
 
@@ -109,52 +113,57 @@ module _ {half start base : ℕ} {d v : List ℕ} (c : CanSee half start base d 
     tested : All tests → Legal h (pairs_in h.count records values) records values
     tested t = rw label_is (legal_part _ _ _ t.1.0)
 
-    module _ {p : Permission} (ep : p ≡ permitted h.index h.id h.size) where
-      -- a number stands against it, or a slice is too short
-      abbrev outside : Bool
-      outside = not (eqb p.number 0) || ltb (length d) (start + 32 * p.format.maxkeys) || ltb (length v) (base + h.size)
+    -- numbers 3 to 5 stand against it
+    pub check_refused : (r : Result Format Refusal) → number_in r ≡ first_of (permit_steps h.index h.id h.size) → None ≡ result_ok r
+        → None ≡ half_checked half start base (memory d v)
+    check_refused (Ok f) e q = absurd cc
+    check_refused (Err r) e q = refuse (λ t. eqb-false _ 0 (number_counts r) (e ∙ no_number h.index h.id h.size (tested t).within.permits))
 
-      pub record Spanned : Type 0 where
+    -- the facts of a format that is given
+    pub granted : (r : Result Format Refusal) → number_in r ≡ first_of (permit_steps h.index h.id h.size) → IfOk r (λ f. f ≡ format_of h.index)
+        → {f : Format} → Some f ≡ result_ok r → (f ≡ format_of h.index) × (0 ≡ first_of (permit_steps h.index h.id h.size))
+    granted (Ok g) n i {f} q =
+        let e : f ≡ g = cc in
+        (e ∙ i, n)
+    granted (Err r) n i q = absurd cc
+
+    module _ {f : Format} (eq : f ≡ format_of h.index) where
+      -- a slice is too short
+      abbrev short : Bool
+      short = ltb (length d) (start + 32 * f.maxkeys) || ltb (length v) (base + h.size)
+
+      record Spanned : Type 0 where
         pub permits : Permitted h.index h.id h.size
-        pub format : p.format ≡ format_of h.index
-        pub directory : start + 32 * p.format.maxkeys ≤ length d
+        pub directory : start + 32 * f.maxkeys ≤ length d
         pub room : base + h.size ≤ length v
 
-      format_is : Permitted h.index h.id h.size → p.format ≡ format_of h.index
-      unfolding permitted
-      format_is q = rw (ep, le-leb _ _ q.index)
+      spanned : 0 ≡ first_of (permit_steps h.index h.id h.size) → short ≡ false → Spanned
+      spanned n q =
+          let b = neither _ _ q in
+          record { permits = permits h.index h.id h.size (sym n); directory = ltb-false _ _ b.0; room = ltb-false _ _ b.1 }
 
-      pub spanned : outside ≡ false → Spanned
-      unfolding permitted
-      spanned q =
-          let a = neither _ _ q in
-          let b = neither _ _ a.0 in
-          let n : p.number ≡ 0 = eqb-true _ _ (not-false _ b.0) in
-          let r = permits h.index h.id h.size (rw ep at n) in
-          record { permits = r; format = format_is r; directory = ltb-false _ _ b.1; room = ltb-false _ _ a.1 }
-
-      pub check_outside : outside ≡ true → not_legal ≡ half_checked half start base (memory d v)
-      unfolding part permitted
-      check_outside q =
+      pub check_short : short ≡ true → None ≡ half_checked half start base (memory d v)
+      unfolding part
+      check_short q =
           refuse
           (λ t.
           let l = tested t in
-          let r = l.within.permits in
-          let n : p.number ≡ 0 = rw ep (no_number h.index h.id h.size r) in
-          let f = format_is r in
-          let x : start + 32 * p.format.maxkeys ≤ length d =
-          rw f (omega (arith, records_long l.holds, length-take (32 * slots h.index) (drop start d), length-drop start d, c)) in
+          let x : start + 32 * f.maxkeys ≤ length d =
+          rw eq (omega (arith, records_long l.holds, length-take (32 * slots h.index) (drop start d), length-drop start d, c)) in
           let y : base + h.size ≤ length v = omega (arith, values_long l.holds, length-take h.size (drop base v), length-drop base v, c) in
-          contrary (rw (n, le-ltb _ _ x, le-ltb _ _ y) at q))
+          contrary (rw (le-ltb _ _ x, le-ltb _ _ y) at q))
 
-      module _ (q : Spanned) where
+      module _ (n : 0 ≡ first_of (permit_steps h.index h.id h.size)) (in_reach : short ≡ false) where
+        q : Spanned
+        q = spanned n in_reach
+
         abbrev end : ℕ
-        end = start + 32 * p.format.maxkeys
+        end = start + 32 * f.maxkeys
 
         records_are : take (end - start) (drop start d) ≡ records
         unfolding part
         records_are =
-            let n : end - start ≡ 32 * slots h.index = rw q.format (omega arith) in
+            let n : end - start ≡ 32 * slots h.index = rw eq (omega arith) in
             rw n
 
         values_are : take (base + h.size - base) (drop base v) ≡ values
@@ -163,33 +172,29 @@ module _ {half start base : ℕ} {d v : List ℕ} (c : CanSee half start base d 
             let n : base + h.size - base ≡ h.size = omega arith in
             rw n
 
-        pub check_asks : Checkable h p.format (take (end - start) (drop start d)) (take (base + h.size - base) (drop base v))
-        check_asks =
-            let n : start + 32 * slots h.index ≤ length d = rw q.format at q.directory in
-            record {
-              permitted = no_number h.index h.id h.size q.permits;
-              format = q.format;
-              records = rw records_are (length_part start (32 * slots h.index) d n);
-              values = rw values_are (length_part base h.size v q.room);
-            }
+        pub check_unread : None ≡ part_sums h (take (end - start) (drop start d)) (take (base + h.size - base) (drop base v))
+            → None ≡ half_checked half start base (memory d v)
+        unfolding part_sums
+        check_unread e =
+            refuse
+            (λ a.
+            let y : part_legal h records values ≡ true = rw label_is a.1.0 in
+            let i = rw (records_are, values_are, y) at e in
+            absurd (cc i))
 
-        module _ {t : Sums} (et : t ≡ part_sums h (take (end - start) (drop start d)) (take (base + h.size - base) (drop base v))) where
-          sums_are : t ≡ part_sums h records values
+        module _ {t : Sums} (et : Some t ≡ part_sums h (take (end - start) (drop start d)) (take (base + h.size - base) (drop base v))) where
+          sums_are : Some t ≡ part_sums h records values
           sums_are = rw (records_are, values_are) at et
 
-          -- the sums are refused, or the half says another sum
-          abbrev wrong : Bool
-          wrong = not t.ok || not (eqb t.used h.used)
+          legal_sums : (part_legal h records values ≡ true) × (t ≡ sums_of (pairs_in h.count records values))
+          legal_sums = sums_legal h records values t sums_are
 
-          pub check_sums : wrong ≡ true → not_legal ≡ half_checked half start base (memory d v)
-          unfolding part_sums
+          pub check_sums : ¬ (t.used ≡ h.used) → None ≡ half_checked half start base (memory d v)
           check_sums w =
               refuse
               (λ a.
-              let y : part_legal h records values ≡ true = rw label_is a.1.0 in
-              let s = rw y at sums_are in
               let u : used (pairs_in h.count records values) ≡ h.used = rw label_is (eqb-true _ _ a.1.1.0) in
-              contrary (rw (s, eq-eqb _ _ u) at w))
+              w (ap (λ (x : Sums). x.used) legal_sums.1 ∙ u))
 
           module _ {y : Bool} (ey : y ≡ all_zero (take (half + 32 - (half + 20)) (drop (half + 20) d))) where
             zeros_are : y ≡ all_zero (part (half + 20) 12 d)
@@ -198,17 +203,17 @@ module _ {half start base : ℕ} {d v : List ℕ} (c : CanSee half start base d 
                 let n : half + 32 - (half + 20) ≡ 12 = omega arith in
                 rw n at ey
 
-            pub check_zeros : not y ≡ true → not_legal ≡ half_checked half start base (memory d v)
-            check_zeros z = refuse (λ a. contrary (sym (not-true y z) ∙ zeros_are ∙ a.0))
+            pub check_zeros : y ≡ false → None ≡ half_checked half start base (memory d v)
+            check_zeros z = refuse (λ a. contrary (sym z ∙ zeros_are ∙ a.0))
 
-            pub check_passed : not y ≡ false → wrong ≡ false
-                → record { ok = true; label = h; format = p.format; half = half; start = start; end = end; base = base; total = t.total }
+            pub check_passed : y ≡ true → t.used ≡ h.used
+                → Some (record { label = h; format = f; half = half; start = start; end = end; base = base; total = t.total })
                 ≡ half_checked half start base (memory d v)
             unfolding half_checked namespace_at
-            check_passed z w =
-                let n = neither (not t.ok) (not (eqb t.used h.used)) w in
-                let l = sums_legal h records values t sums_are (not-false t.ok n.0) in
-                let u : t.used ≡ h.used = eqb-true _ _ (not-false _ n.1) in
+            check_passed z u =
+                let l = legal_sums in
                 let k : used (pairs_in h.count records values) ≡ h.used = sym (ap (λ (x : Sums). x.used) l.1) ∙ u in
-                let a : All tests = (sym zeros_are ∙ not-false y z, (rw (← label_is) l.0, (rw (← label_is) (eq-eqb _ _ k), tt))) in
-                rw (true_all tests a, ← label_is, l.1, q.format, length_pairs h.count records values, k)
+                let a : All tests = (sym zeros_are ∙ z, (rw (← label_is) l.0, (rw (← label_is) (eq-eqb _ _ k), tt))) in
+                rw (true_all tests a, ← label_is, l.1, eq, length_pairs h.count records values, k)
+
+pub ruleset half_laws = (check_short, check_unread, check_sums)

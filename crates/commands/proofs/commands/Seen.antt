@@ -1,12 +1,12 @@
 -- What the steps see of checked memory, and of a key looked up in it, is what they are defined to look at. Assumes nothing.
-use mathlib.Core.Path.{◌≡◌, sym, ap, ap₂, ◌∙◌}
+use mathlib.Core.Path.{◌≡◌, refl, sym, ap, ap₂, ◌∙◌}
 use mathlib.Core.Bool.{true, false}
 use mathlib.Core.List.{List}
+use Rattle.std.specs.Prelude.{Some, None}
 use Prim.Native.Nat.{ℕ}
-use native.Mathlib.Omega.{arith}
 use lib.Dec.{eqb}
 use lib.ListN.{length}
-use borrow.Author.Tests.{eqb-true, eqb-false, ne_eqb}
+use borrow.Author.Tests.{eqb-true, eqb-false}
 use Rattle.keys.specs.Keys.{Padded}
 use Rattle.octets.specs.Tests.{first_of}
 use Rattle.octets.proofs.TestLaws.{none_holds, none_first, some_first, known, holds, fails}
@@ -25,7 +25,7 @@ use Rattle.memory.specs.Memory.{memory, namespaces_of, legal}
 use Rattle.checking.specs.Checks.{checked}
 use Rattle.memory.proofs.NameLaws.{at_id}
 use Rattle.maps.specs.Asks.{keys_at, room_at, Looked, CanLook, CanWeigh, Legal}
-use Rattle.maps.proofs.LegalLaws.{ok_is, legal_checked, unnamed, label_is, format_is}
+use Rattle.maps.proofs.LegalLaws.{illegal_checked, legal_checked, unnamed, label_is, format_is}
 use Rattle.maps.proofs.RoomLaws.{looked_in, room_is, can_weigh}
 use Rattle.rules.specs.declared.steps.View.{View}
 use Rattle.rules.specs.declared.steps.Stock.{Stock}
@@ -37,7 +37,7 @@ use Rattle.commands.proofs.AnswerLaws.{refused}
 
 -- what the code asks with
 abbrev pub view : Checked → ℕ → View
-view k n = record { legal = k.ok; format = k.format; id = k.label.id; room = n }
+view k n = record { legal = true; format = k.format; id = k.label.id; room = n }
 
 abbrev pub stock : Checked → Found → ℕ → Stock
 stock k f old =
@@ -72,52 +72,48 @@ module _ (c : Command) (b d v : List ℕ) where
   s = at c.nsid (namespaces_of (memory d v))
 
   -- a status that is not 00h is all that is answered
-  refusing : {st : ℕ} → status_of (legal (memory d v)) s c (length b) ≡ st → (st ≡ 0 → ⊥) → response st 0 b d v ≡ respond c b (memory d v)
+  refusing : {st : ℕ} → status_of (legal (memory d v)) s c (length b) ≡ st → eqb st 0 ≡ false → response st 0 b d v ≡ respond c b (memory d v)
   unfolding respond
   refusing {st} e q =
-      let z : eqb (status_of (legal (memory d v)) s c (length b)) 0 ≡ false = rw e (ne_eqb st 0 q) in
+      let z : eqb (status_of (legal (memory d v)) s c (length b)) 0 ≡ false = rw e q in
       rw (refused (legal (memory d v)) s c b z, z, e)
 
   -- ---- steps a to h
 
-  module _ {k : Checked} (ek : k ≡ checked c.nsid (memory d v)) {st : ℕ} (e : st ≡ first_of (steps_to_h (view k (length b)) c)) where
+  pub refused_illegal : None ≡ checked c.nsid (memory d v) → response 6 0 b d v ≡ respond c b (memory d v)
+  unfolding status_of steps
+  refused_illegal e = refusing (rw (illegal_checked c.nsid (memory d v) e)) refl
+
+  module _ {k : Checked} (ek : Some k ≡ checked c.nsid (memory d v)) {st : ℕ} (e : st ≡ first_of (steps_to_h (view k (length b)) c)) where
+    g : Legal k d v
+    g = legal_checked c.nsid d v ek
+
     early_is : st ≡ first_of (steps_to_h (view_of (legal (memory d v)) s (length b)) c)
     early_is =
-        elim (known (legal (memory d v))) [
-          | holds o ↦
-              let ok = ok_is c.nsid (memory d v) ek ∙ o in
-              let g = legal_checked c.nsid d v ek ok in
-              elim (known (eqb c.nsid k.label.id)) [
-                | holds i ↦
-                    let same = ap (λ (n : ℕ). at n (namespaces_of (memory d v))) (eqb-true c.nsid k.label.id i) in
-                    e ∙ rw (ok, o, same) (view_is g c (length b))
-                | fails i ↦
-                    let none = unnamed c.nsid (memory d v) ek ok (eqb-false _ _ i) in
-                    let other = at_id c.nsid (namespaces_of (memory d v)) ∙ none in
-                    e ∙ other_view (view k (length b)) (view_of (legal (memory d v)) s (length b)) c (ok ∙ sym o) i other
-              ]
-          | fails o ↦ e ∙ rw (ok_is c.nsid (memory d v) ek, o)
+        elim (known (eqb c.nsid k.label.id)) [
+          | holds i ↦
+              let same = ap (λ (n : ℕ). at n (namespaces_of (memory d v))) (eqb-true c.nsid k.label.id i) in
+              e ∙ rw (g.legal, same) (view_is g c (length b))
+          | fails i ↦
+              let none = unnamed c.nsid (memory d v) ek (eqb-false _ _ i) in
+              let other = at_id c.nsid (namespaces_of (memory d v)) ∙ none in
+              e ∙ other_view (view k (length b)) (view_of (legal (memory d v)) s (length b)) c (sym g.legal) i other
         ]
 
-    pub refused_early : (st ≡ 0 → ⊥) → response st 0 b d v ≡ respond c b (memory d v)
+    pub refused_early : eqb st 0 ≡ false → response st 0 b d v ≡ respond c b (memory d v)
     unfolding status_of steps
     refused_early q =
         let x = view_of (legal (memory d v)) s (length b) in
-        refusing (some_first (steps_to_h x c) (steps_from_i (stock_of s (key_of c)) c) (rw early_is at q) ∙ sym early_is) q
+        refusing (some_first (steps_to_h x c) (steps_from_i (stock_of s (key_of c)) c) (rw early_is at (eqb-false st 0 q)) ∙ sym early_is) q
 
     pub admitted : st ≡ 0 → Admitted c k (length b) d v
     admitted q =
-        elim (known (legal (memory d v))) [
-          | fails o ↦ absurd (omega (arith, rw o at (sym early_is ∙ q)))
-          | holds o ↦
-              let ok = ok_is c.nsid (memory d v) ek ∙ o in
-              let p = passed_to_h (view k (length b)) c (none_holds (steps_to_h (view k (length b)) c) tt (sym e ∙ q)) in
-              record {
-                legal = legal_checked c.nsid d v ek ok;
-                named = p.same;
-                early = rw (← ap (λ (n : ℕ). at n (namespaces_of (memory d v))) p.same) (rw o at (sym early_is ∙ q));
-              }
-        ]
+        let p = passed_to_h (view k (length b)) c (none_holds (steps_to_h (view k (length b)) c) tt (sym e ∙ q)) in
+        record {
+          legal = g;
+          named = p.same;
+          early = rw (← ap (λ (n : ℕ). at n (namespaces_of (memory d v))) p.same) (rw g.legal at (sym early_is ∙ q));
+        }
 
   -- ---- steps i and j
 
@@ -151,7 +147,7 @@ module _ (c : Command) (b d v : List ℕ) where
             none_first (steps_to_h x c) (steps_from_i (stock_of its (key_of c)) c) (none_holds (steps_to_h x c) tt a.early)
             ∙ sym (e ∙ stock_is a.legal c f old held room)
 
-        pub refused_late : (st ≡ 0 → ⊥) → response st 0 b d v ≡ respond c b (memory d v)
+        pub refused_late : eqb st 0 ≡ false → response st 0 b d v ≡ respond c b (memory d v)
         refused_late q = refusing (rw (a.legal.legal, ap (λ (n : ℕ). at n (namespaces_of (memory d v))) a.named) status_is) q
 
         pub ruled : st ≡ 0 → Ruled c k f (length b) d v

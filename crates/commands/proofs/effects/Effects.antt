@@ -1,13 +1,16 @@
 -- What a ruled command may ask of the memory, and that what it does is what is defined. Assumes nothing.
-use mathlib.Core.Path.{◌≡◌, sym, ap, ◌∙◌}
-use mathlib.Core.Bool.{true, false}
+use mathlib.Core.Path.{◌≡◌, refl, sym, ap, ◌∙◌}
+use mathlib.Core.Bool.{true}
 use mathlib.Core.List.{List}
 use Prim.Native.Nat.{ℕ, ◌≤◌}
-use lib.Dec.{eqb}
 use lib.ListN.{length, take}
+use Rattle.std.specs.Prelude.{Result, Ok, Err, IsOk}
 use Rattle.octets.specs.Octets.{put}
+use Rattle.octets.proofs.TestLaws.{contrary}
 use Rattle.wire.specs.declared.entries.Command.{Command}
-use Rattle.wire.specs.Entry.{key_of}
+use Rattle.wire.specs.declared.entries.Opcode.{Opcode}
+use Rattle.wire.specs.declared.entries.UnknownOpcode.{UnknownOpcode}
+use Rattle.wire.specs.Entry.{Names, key_of}
 use Rattle.sheets.specs.Page.{page, shown}
 use Rattle.store.specs.declared.finds.Found.{Found}
 use Rattle.store.specs.Maps.{Pair, value_of, insert, erase}
@@ -66,6 +69,10 @@ module _ {c : Command} {k : Checked} {f : Found} (b : List ℕ) {d v : List ℕ}
       let h = holds_over (legal_holds (memory d v) r.legal.legal) in
       sym (rw (e, with_same k.label.id (namespaces_of (memory d v))) h)
 
+  pub is_known : (x : Result Opcode UnknownOpcode) → Names c.opcode x → IsOk x
+  is_known (Ok o) n = refl
+  is_known (Err e) n = absurd (contrary (sym n ∙ p.early.opcode))
+
   -- ---- Store
 
   module _ (op : c.opcode ≡ 0x01) where
@@ -116,6 +123,5 @@ module _ {c : Command} {k : Checked} {f : Found} (b : List ℕ) {d v : List ℕ}
 
   -- ---- Exist
 
-  pub unchanged : eqb c.opcode 0x01 ≡ false → eqb c.opcode 0x02 ≡ false → eqb c.opcode 0x06 ≡ false → eqb c.opcode 0x10 ≡ false
-      → response 0 0 b d v ≡ meant
-  unchanged x y z w = made (rw y) (rw (y, z)) (kept (rw (x, w)))
+  pub unchanged : c.opcode ≡ 0x14 → response 0 0 b d v ≡ meant
+  unchanged op = made (rw op) (rw op) (kept (rw op))

@@ -10,11 +10,9 @@ use Rattle.octets.specs.Octets.{put, zeros}
 use Rattle.octets.proofs.PartLaws.{put_then}
 use Rattle.store.specs.declared.namespaces.Label.{Label}
 use Rattle.table.specs.Formats.{slots}
-use Rattle.store.specs.Namespace.{fresh}
 use Rattle.store.specs.Records.{records_part, values_part}
 use Rattle.memory.specs.Namespaces.{joined, total, slots_of, size_of}
-use Rattle.memory.specs.Memory.{Memory, memory, needed, needed_values, half_of, label_of, records_for, values_for, head_of, directory_of, values_of, image_over}
-use Rattle.memory.specs.Permits.{no_label}
+use Rattle.memory.specs.Memory.{Memory, memory, needed, needed_values, half_of, records_for, values_for, head_of, directory_of, values_of, image_over}
 use Rattle.memory.proofs.JoinLaws.{put_mid_law}
 use Rattle.formatting.specs.declared.measures.Half.{Half}
 use Rattle.formatting.specs.Formatting.{blanks, blanked}
@@ -56,12 +54,3 @@ module _ (hs : List Half) (a b : Label) (heads : head_of (blanks hs) ≡ half_of
   blank_image e f =
       let n : end - 64 ≡ 32 * total slots_of (blanks hs) = omega arith in
       rw (n, ← heads, f, ← records_blank hs, ← values_blank hs)
-
-pub one_head : (h : Half) → head_of (blanks (h ∷ [])) ≡ half_of (label_of (fresh h.index h.id h.size)) ++ half_of no_label
-unfolding head_of half_of
-one_head h = refl
-
-pub two_heads : (h k : Half)
-    → head_of (blanks (h ∷ k ∷ [])) ≡ half_of (label_of (fresh h.index h.id h.size)) ++ half_of (label_of (fresh k.index k.id k.size))
-unfolding head_of half_of
-two_heads h k = refl

@@ -1,113 +1,89 @@
 -- What the measure of a formatting answers, one law for each way out. Assumes nothing.
 use mathlib.Core.Path.{◌≡◌, refl, sym, ◌∙◌}
-use mathlib.Core.Bool.{true, ◌||◌}
+use mathlib.Core.Bool.{true, cond, ◌||◌}
 use mathlib.Core.List.{List, [], ◌∷◌, ◌++◌}
-use Prim.Native.Nat.{ℕ, ◌+◌, ◌≤◌, ◌<◌}
+use Prim.Native.Nat.{ℕ, ◌+◌, ◌*◌, ◌≤◌, ◌<◌}
 use native.Mathlib.Nat.{add-zero}
 use native.Mathlib.Omega.{arith}
 use lib.Dec.{ltb}
-use borrow.Author.Tests.{eq-eqb, ne_eqb, lt-ltb, le-ltb, le-leb}
+use borrow.Author.Tests.{eqb-false, eq-eqb, ne_eqb, lt-ltb, le-ltb}
+use Rattle.refusals.specs.declared.numbers.Refusal.{Refusal}
+use Rattle.refusals.specs.Refusals.{number_of}
+use Rattle.refusals.proofs.Counted.{number_counts}
 use Rattle.octets.specs.Tests.{Row, first_of}
-use Rattle.octets.proofs.TestLaws.{known, holds, fails, none_first, some_first}
-use Rattle.table.specs.Formats.{slots}
+use Rattle.octets.proofs.TestLaws.{none_first, some_first}
+use Rattle.table.specs.declared.formats.Format.{Format}
+use Rattle.table.specs.Formats.{format_of, slots}
 use Rattle.store.specs.Namespace.{Namespace, permit_steps}
-use Rattle.store.proofs.NamespaceLaws.{Permitted, permitted as permits, none_of, format_bounds}
-use Rattle.memory.specs.declared.permits.Permission.{Permission}
-use Rattle.memory.specs.Namespaces.{total, slots_of, size_of, apart}
+use Rattle.store.proofs.NamespaceLaws.{Permitted, permitted, none_of}
+use Rattle.memory.specs.Namespaces.{total, size_of, apart}
 use Rattle.memory.specs.Memory.{needed, needed_values}
-use Rattle.memory.specs.Permits.{permitted}
 use Rattle.formatting.specs.declared.measures.Half.{Half}
-use Rattle.formatting.specs.declared.measures.Measured.{Measured}
-use Rattle.formatting.specs.Formatting.{blanks, permit_all, last_rows, format_steps, measured, room_measured}
+use Rattle.formatting.specs.Formatting.{blanks, permit_all, last_rows, format_steps}
 
-abbrev refused : ℕ → Measured
-refused n = record { number = n; end = 0 }
+abbrev number_for : Half → ℕ
+number_for h = first_of (permit_steps h.index h.id h.size)
 
--- a number is all that is answered
-number_said : (hs : List Half) (d v n : ℕ) → first_of (format_steps hs d v) ≡ n → ¬ (n ≡ 0) → refused n ≡ measured hs d v
-unfolding measured
-number_said hs d v n e q = rw (e, ne_eqb n 0 q)
+pub permits : (h : Half) → 0 ≡ number_for h → Permitted h.index h.id h.size
+permits h z = permitted h.index h.id h.size (sym z)
 
--- a permission that was given
-module _ (h : Half) {p : Permission} (e : p ≡ permitted h.index h.id h.size) (z : p.number ≡ 0) where
-  pub permitted_is : Permitted h.index h.id h.size
-  unfolding permitted
-  permitted_is = permits h.index h.id h.size (rw e at z)
+-- rows that refuse decide, whatever stands behind them
+decided : (rs qs : List Row) (r : Refusal) → number_of r ≡ first_of rs → number_of r ≡ first_of (rs ++ qs)
+decided rs qs r e = e ∙ sym (some_first rs qs (λ z. eqb-false _ 0 (number_counts r) (e ∙ z)))
 
-  pub keys_are : p.format.maxkeys ≡ slots h.index
-  unfolding permitted
-  keys_are = rw (e, le-leb _ _ permitted_is.index)
-
-  pub keys_few : p.format.maxkeys ≤ 1024
-  keys_few = omega (arith, keys_are, format_bounds h.index permitted_is.index)
-
-module _ (h : Half) (hs : List Half) (d v : ℕ) {p : Permission} (e : p ≡ permitted h.index h.id h.size) where
+module _ (h : Half) (hs : List Half) (d v : ℕ) where
   abbrev rest : List Row
   rest = permit_all hs ++ last_rows (blanks (h ∷ hs)) d v
 
-  pub first_refused : ¬ (p.number ≡ 0) → refused p.number ≡ measured (h ∷ hs) d v
-  unfolding permitted format_steps
-  first_refused q =
-      number_said (h ∷ hs) d v p.number
-      (some_first (permit_steps h.index h.id h.size) rest (rw e at q) ∙ sym (rw e)) q
+  pub first_refused : (r : Refusal) → number_of r ≡ number_for h → number_of r ≡ first_of (format_steps (h ∷ hs) d v)
+  unfolding format_steps
+  first_refused r e = decided (permit_steps h.index h.id h.size) rest r e
 
   -- the others decide
-  pub first_passed : p.number ≡ 0 → first_of (format_steps (h ∷ hs) d v) ≡ first_of rest
+  pub first_passed : 0 ≡ number_for h → first_of (format_steps (h ∷ hs) d v) ≡ first_of rest
   unfolding format_steps
-  first_passed z = none_first (permit_steps h.index h.id h.size) rest (none_of h.index h.id h.size (permitted_is h e z))
+  first_passed z = none_first (permit_steps h.index h.id h.size) rest (none_of h.index h.id h.size (permits h z))
 
--- ---- number 6
-
+-- number 6
 room_is : (hs : List Half) (d v : ℕ) → first_of (format_steps hs d v) ≡ first_of (last_rows (blanks hs) d v) → apart (blanks hs) ≡ true
-    → total size_of (blanks hs) ≤ 65536 → room_measured (total slots_of (blanks hs)) (total size_of (blanks hs)) d v ≡ measured hs d v
-unfolding room_measured measured
-room_is hs d v e a l =
-    let ss = blanks hs in
-    let f = le-ltb 65536 (total size_of ss) l in
-    elim (known (ltb d (needed ss) || ltb v (needed_values ss))) [
-      | holds q ↦ rw (e, a, f, q)
-      | fails q ↦ rw (e, a, f, q)
-    ]
+    → total size_of (blanks hs) ≤ 65536 → first_of (format_steps hs d v) ≡ cond (ltb d (needed (blanks hs)) || ltb v (needed_values (blanks hs))) 6 0
+room_is hs d v e a l = e ∙ rw (a, le-ltb 65536 (total size_of (blanks hs)) l)
 
 -- ---- one
 
-module _ (h : Half) (d v : ℕ) {p : Permission} (e : p ≡ permitted h.index h.id h.size) (z : p.number ≡ 0) where
-  pub room_one : room_measured p.format.maxkeys h.size d v ≡ measured (h ∷ []) d v
-  room_one =
-      let small : total size_of (blanks (h ∷ [])) ≤ 65536 = omega (arith, (permitted_is h e z).size_high) in
-      rw (keys_are h e z) (rw (add-zero (slots h.index), add-zero h.size) at (room_is (h ∷ []) d v (first_passed h [] d v e z) refl small))
+pub one_left : (h : Half) (d v : ℕ) → 0 ≡ number_for h → {f : Format} → f ≡ format_of h.index
+    → first_of (format_steps (h ∷ []) d v) ≡ cond (ltb d (64 + 32 * f.maxkeys) || ltb v h.size) 6 0
+one_left h d v z e =
+    let small : total size_of (blanks (h ∷ [])) ≤ 65536 = omega (arith, (permits h z).size_high) in
+    rw e (rw (add-zero (slots h.index), add-zero h.size) at (room_is (h ∷ []) d v (first_passed h [] d v z) refl small))
 
 -- ---- two
 
-module _ (h k : Half) (d v : ℕ) {p q : Permission} (e : p ≡ permitted h.index h.id h.size) (z : p.number ≡ 0)
-    (f : q ≡ permitted k.index k.id k.size) where
+module _ (h k : Half) (d v : ℕ) (z : 0 ≡ number_for h) where
   abbrev ss : List Namespace
   ss = blanks (h ∷ k ∷ [])
 
-  pub second_refused : ¬ (q.number ≡ 0) → refused q.number ≡ measured (h ∷ k ∷ []) d v
-  unfolding permitted
-  second_refused n =
-      number_said (h ∷ k ∷ []) d v q.number
-      (first_passed h (k ∷ []) d v e z ∙ some_first (permit_steps k.index k.id k.size) (last_rows ss d v) (rw f at n) ∙ sym (rw f)) n
+  pub second_refused : (r : Refusal) → number_of r ≡ number_for k → number_of r ≡ first_of (format_steps (h ∷ k ∷ []) d v)
+  second_refused r e = decided (permit_steps k.index k.id k.size) (last_rows ss d v) r e ∙ sym (first_passed h (k ∷ []) d v z)
 
-  module _ (y : q.number ≡ 0) where
+  module _ (y : 0 ≡ number_for k) where
     last_is : first_of (format_steps (h ∷ k ∷ []) d v) ≡ first_of (last_rows ss d v)
     last_is =
-        first_passed h (k ∷ []) d v e z
-        ∙ none_first (permit_steps k.index k.id k.size) (last_rows ss d v) (none_of k.index k.id k.size (permitted_is k f y))
+        first_passed h (k ∷ []) d v z
+        ∙ none_first (permit_steps k.index k.id k.size) (last_rows ss d v) (none_of k.index k.id k.size (permits k y))
 
-    pub same_ids : h.id ≡ k.id → refused 19 ≡ measured (h ∷ k ∷ []) d v
-    same_ids i = number_said (h ∷ k ∷ []) d v 19 (last_is ∙ rw (eq-eqb h.id k.id i)) (λ o. omega arith)
+    pub same_ids : h.id ≡ k.id → 19 ≡ first_of (format_steps (h ∷ k ∷ []) d v)
+    same_ids i = sym (last_is ∙ rw (eq-eqb h.id k.id i))
 
     module _ (i : ¬ (h.id ≡ k.id)) where
-      pub sizes_above : 65536 < h.size + k.size → refused 5 ≡ measured (h ∷ k ∷ []) d v
+      pub sizes_above : 65536 < h.size + k.size → 5 ≡ first_of (format_steps (h ∷ k ∷ []) d v)
       sizes_above l =
           let m : 65536 < h.size + (k.size + 0) = omega arith in
-          number_said (h ∷ k ∷ []) d v 5 (last_is ∙ rw (ne_eqb h.id k.id i, lt-ltb _ _ m)) (λ o. omega arith)
+          sym (last_is ∙ rw (ne_eqb h.id k.id i, lt-ltb _ _ m))
 
-      pub room_two : h.size + k.size ≤ 65536
-          → room_measured (p.format.maxkeys + q.format.maxkeys) (h.size + k.size) d v ≡ measured (h ∷ k ∷ []) d v
-      room_two l =
+      pub two_left : h.size + k.size ≤ 65536 → {f g : Format} → f ≡ format_of h.index → g ≡ format_of k.index
+          → first_of (format_steps (h ∷ k ∷ []) d v) ≡ cond (ltb d (64 + 32 * (f.maxkeys + g.maxkeys)) || ltb v (h.size + k.size)) 6 0
+      two_left l e f =
           let small : total size_of ss ≤ 65536 = omega arith in
           let a : apart ss ≡ true = rw (ne_eqb h.id k.id i) in
-          rw (keys_are h e z, keys_are k f y) (rw (add-zero (slots k.index), add-zero k.size) at (room_is (h ∷ k ∷ []) d v last_is a small))
+          rw (e, f) (rw (add-zero (slots k.index), add-zero k.size) at (room_is (h ∷ k ∷ []) d v last_is a small))

@@ -1,30 +1,27 @@
 -- What is read of a descriptor are its limits. Assumes nothing.
-use mathlib.Core.Path.{◌≡◌, ap, ◌∙◌}
-use mathlib.Core.Bool.{true, false, ◌||◌}
+use mathlib.Core.Path.{◌≡◌}
 use mathlib.Core.List.{List}
-use Prim.Native.Nat.{ℕ, ◌+◌, ◌*◌, ◌≤◌}
+use Prim.Native.Nat.{ℕ, ◌+◌, ◌-◌, ◌*◌, ◌≤◌, ◌<◌}
 use native.Mathlib.Omega.{arith}
-use lib.Dec.{leb, ltb}
 use lib.ListN.{length}
-use borrow.Author.Tests.{ltb-false}
+use borrow.Author.Tests.{le-leb, lt-leb, lt-ltb, le-ltb}
+use Rattle.std.specs.List.{slice_range}
 use Rattle.octets.specs.Octets.{part, number}
-use Rattle.octets.proofs.PartLaws.{part_inside}
-use Rattle.octets.proofs.TestLaws.{neither}
 use Rattle.sheets.specs.Identify.{formats_in, limits_in, no_limits, limits_at}
 
 module _ {n : ℕ} (p : List ℕ) (o : ℕ) (e : n ≡ formats_in p) where
-  pub limits_none : (leb n o || ltb (length p) (88 + 16 * o)) ≡ true → no_limits ≡ limits_at p o
+  pub limits_none : n ≤ o → no_limits ≡ limits_at p o
   unfolding limits_at
-  limits_none q = rw (← e, q)
+  limits_none h = rw (← e, le-leb n o h)
 
-  module _ (q : (leb n o || ltb (length p) (88 + 16 * o)) ≡ false) where
-    pub limits_lie : 88 + 16 * o ≤ length p
-    limits_lie = ltb-false (length p) (88 + 16 * o) (neither (leb n o) (ltb (length p) (88 + 16 * o)) q).1
+  module _ (h : o < n) where
+    pub limits_past : length p < 88 + 16 * o → no_limits ≡ limits_at p o
+    unfolding limits_at
+    limits_past q = rw (← e, lt-leb n o h, lt-ltb (length p) (88 + 16 * o) q)
 
-    pub limits_read : {a b c : ℕ} → a ≡ number (part (72 + 16 * o) 2 p) → b ≡ number (part (72 + 16 * o + 4) 4 p) → c ≡ number (part (72 + 16 * o + 8) 4 p)
-        → record { keymax = a; valuemax = b; maxkeys = c } ≡ limits_at p o
-    unfolding limits_at limits_in
-    limits_read ea eb ec =
-        let at = 72 + 16 * o in
-        let x : part 0 2 (part at 16 p) ≡ part at 2 p = part_inside at 16 0 2 p (omega arith) ∙ ap (λ k. part k 2 p) (omega arith) in
-        rw (← e, q, x, part_inside at 16 4 4 p (omega arith), part_inside at 16 8 4 p (omega arith), ea, eb, ec)
+    pub limits_read : {d : List ℕ} {a b c : ℕ} → d ≡ slice_range p (72 + 16 * o) (72 + 16 * o + 16) → a ≡ number (part 0 2 d) → b ≡ number (part 4 4 d)
+        → c ≡ number (part 8 4 d) → 88 + 16 * o ≤ length p → record { keymax = a; valuemax = b; maxkeys = c } ≡ limits_at p o
+    unfolding limits_at limits_in part
+    limits_read ed ea eb ec q =
+        let w : 72 + 16 * o + 16 - (72 + 16 * o) ≡ 16 = omega arith in
+        rw (← e, lt-leb n o h, le-ltb (length p) (88 + 16 * o) q, ea, eb, ec, ed, w)

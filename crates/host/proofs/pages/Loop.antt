@@ -1,22 +1,20 @@
--- The loop of the page reader. At its head i entries are passed, the next starts at `at`, the key passed last stands in the part
--- from `last` to `end`, the key asked for in the part from `asked` to `stop`. Assumes nothing.
+-- The loop of the page reader. At its head i entries are passed; what is left of the page, the key passed last and the key asked for
+-- are at hand. Assumes nothing.
 use mathlib.Core.Path.{◌≡◌, refl, sym, ap, ◌∙◌}
-use mathlib.Core.Bool.{cond}
-use mathlib.Core.List.{List, [], ◌∷◌, ◌++◌, append-nil, append_assoc}
+use Rattle.std.specs.Prelude.{Ok}
+use mathlib.Core.List.{List, [], ◌∷◌, ◌++◌, append_assoc}
 use Prim.Native.Nat.{ℕ, zero, suc, ◌+◌, ◌-◌, ◌≤◌, ◌<◌}
 use native.Mathlib.Nat.{sub-zero}
 use native.Mathlib.Omega.{arith}
-use lib.Dec.{eqb}
-use lib.ListN.{length, drop, get_or, length-append, length-drop}
-use lib.Seq.{drop-drop, get_or_at}
-use borrow.Author.Tests.{le-ltb, lt-ltb, eq-eqb, ne_eqb}
+use lib.ListN.{length, drop, get_or, length-append}
+use lib.Seq.{get_or_at}
+use borrow.Author.Tests.{le-ltb, lt-ltb}
 use Rattle.octets.specs.Octets.{part, number}
 use Rattle.keys.specs.Keys.{Key}
-use Rattle.octets.proofs.PartLaws.{part_drop, part_rest}
-use Rattle.sheets.specs.declared.pages.PageEntry.{PageEntry}
-use Rattle.sheets.specs.Page.{entry_size, first_entry, Reading, refused, keys, behind, read_entries, read_page}
-use Rattle.sheets.proofs.PageLaws.{First, first_fits}
-use Rattle.host.specs.PageKey.{refusal, given, page_key}
+use Rattle.octets.proofs.PartLaws.{length_part, part_rest}
+use Rattle.sheets.proofs.PageLaws.{back}
+use Rattle.sheets.specs.Page.{entry_size, entry_in, first_entry, Reading, refused, keys, behind, read_entries, read_page}
+use Rattle.host.specs.PageKey.{refusal, page_key}
 
 behind_none : (r : Reading) → behind [] r ≡ r
 behind_none (refused n) = refl
@@ -33,87 +31,57 @@ other [] k (suc o) h = refl
 other (j ∷ ks) k zero h = refl
 other (j ∷ ks) k (suc o) h = other ks k o (λ e. h (ap suc e))
 
-pub record Passed (p : List ℕ) (o count i at last end asked stop : ℕ) : Type 0 where
-  pub passed : (i ≤ count) × (at ≤ length p) × (last ≤ end) × (end ≤ length p)
-  pub asked_in : (asked ≤ stop) × (stop ≤ length p) × (stop ≤ asked + 16)
+pub record Passed (p : List ℕ) (o count i : ℕ) (rest last asked : List ℕ) : Type 0 where
+  pub within : i ≤ count
+  pub few : length asked ≤ 16
   pub seen : List Key
   pub many : length seen ≡ i
-  pub found : get_or seen o [] ≡ part asked (stop - asked) p
-  pub is : read_page p ≡ behind seen (read_entries (count - i) (part last (end - last) p) (drop at p))
+  pub found : get_or seen o [] ≡ asked
+  pub is : read_page p ≡ behind seen (read_entries (count - i) last rest)
 
 pub page_short : (p : List ℕ) (o : ℕ) → length p < 4 → refusal 7 ≡ page_key (read_page p) o
 unfolding read_page
 page_short p o h = rw (lt-ltb (length p) 4 h)
 
-pub passed_none : (p : List ℕ) (o count : ℕ) → count ≡ number (part 0 4 p) → 4 ≤ length p → Passed p o count 0 4 4 4 4 4
+pub passed_none : (p : List ℕ) (o count : ℕ) → count ≡ number (part 0 4 p) → 4 ≤ length p → Passed p o count 0 (drop 4 p) [] []
 unfolding part read_page
 passed_none p o count e h =
     record {
-      passed = omega arith;
-      asked_in = omega arith;
+      within = omega arith;
+      few = omega arith;
       seen = [];
       many = refl;
       found = refl;
       is = rw (le-ltb (length p) 4 h, sub-zero, e) (sym (behind_none _));
     }
 
-module _ {p : List ℕ} {o count i at last end asked stop : ℕ} (g : Passed p o count i at last end asked stop) where
-  pub passed_all : count ≤ i → given count (part asked (stop - asked) p) ≡ page_key (read_page p) o
-  passed_all h =
-      let z : count - i ≡ 0 = omega arith in
-      let n : length g.seen ≡ count = omega arith in
-      let r : read_page p ≡ keys (g.seen ++ []) = rw z at g.is in
-      rw (r, append-nil g.seen, g.found, n)
+module _ {p : List ℕ} {o count i : ℕ} {rest last asked : List ℕ} (g : Passed p o count i rest last asked) (h : i < count) where
+  left : count - i ≡ suc (count - (i + 1))
+  left = omega arith
 
-  module _ (e : PageEntry) (is : e ≡ first_entry (part last (end - last) p) (part at (length p - at) p)) (h : i < count) where
-    -- the key of the entry, and the reading of those behind it
+  module _ (n : ℕ) (e : entry_in (Ok n) ≡ first_entry last rest) (fits : (n ≤ 16) × (entry_size n ≤ length rest)) (m : ℕ) (size : m ≡ entry_size n) where
+    -- the key of the entry and the rest behind it, as the code lends them
     abbrev k : Key
-    k = part 2 e.len (drop at p)
+    k = part 2 (2 + n - 2) rest
 
-    abbrev rest : Reading
-    rest = read_entries (count - (i + 1)) k (drop (entry_size e.len) (drop at p))
+    abbrev behind_it : List ℕ
+    behind_it = part m (length rest - m) rest
 
-    e_is : e ≡ first_entry (part last (end - last) p) (drop at p)
-    e_is = is ∙ ap (first_entry (part last (end - last) p)) (part_rest at p)
+    passed_more : (ks : Key) → get_or (g.seen ++ (k ∷ [])) o [] ≡ ks → length ks ≤ 16 → Passed p o count (i + 1) behind_it k ks
+    passed_more ks f l =
+        let t : k ≡ part 2 n rest = rw (back n) in
+        let d : behind_it ≡ drop (entry_size n) rest = rw size (part_rest (entry_size n) rest) in
+        record {
+          within = omega arith;
+          few = l;
+          seen = g.seen ++ (k ∷ []);
+          many = simp length-append (omega arith);
+          found = f;
+          is = rw (t, d) ((rw (left, ← e) at g.is) ∙ behind_behind g.seen (part 2 n rest ∷ []) _);
+        }
 
-    one : read_page p ≡ behind g.seen (cond (eqb e.number 0) (behind (k ∷ []) rest) (refused e.number))
-    one =
-        let z : count - i ≡ suc (count - (i + 1)) = omega arith in
-        rw e_is (rw z at g.is)
+    pub passed_asked : i ≡ o → Passed p o count (i + 1) behind_it k k
+    passed_asked b = passed_more k (get_or_at g.seen k [] [] o (omega arith)) (omega (arith, length_part 2 (2 + n - 2) rest (omega arith)))
 
-    pub passed_refused : (e.number ≡ 0 → ⊥) → refusal e.number ≡ page_key (read_page p) o
-    passed_refused q = ap (λ (r : Reading). page_key r o) (sym (rw (ne_eqb e.number 0 q) at one))
-
-    module _ (q : e.number ≡ 0) where
-      pub passed_first : First (length p - at) e.len
-      passed_first = rw (← length-drop at p, e_is) (first_fits (part last (end - last) p) (drop at p) (rw e_is at q))
-
-      module _ (m : ℕ) (size : m ≡ entry_size e.len) where
-        k_is : part (at + 2) (at + 2 + e.len - (at + 2)) p ≡ k
-        k_is =
-            let n : at + 2 + e.len - (at + 2) ≡ e.len = omega arith in
-            rw (n, part_drop at 2 e.len p)
-
-        passed_more : (a s : ℕ) → get_or (g.seen ++ (k ∷ [])) o [] ≡ part a (s - a) p → (a ≤ s) × (s ≤ length p) × (s ≤ a + 16)
-            → Passed p o count (i + 1) (at + m) (at + 2) (at + 2 + e.len) a s
-        passed_more a s f within =
-            let first = passed_first in
-            record {
-              passed = omega arith;
-              asked_in = within;
-              seen = g.seen ++ (k ∷ []);
-              many = simp length-append (omega arith);
-              found = f;
-              is = rw (k_is, size, ← drop-drop) ((rw (eq-eqb e.number 0 q) at one) ∙ behind_behind g.seen (k ∷ []) rest);
-            }
-
-        pub passed_asked : i ≡ o → Passed p o count (i + 1) (at + m) (at + 2) (at + 2 + e.len) (at + 2) (at + 2 + e.len)
-        passed_asked b =
-            let first = passed_first in
-            let f = get_or_at g.seen k [] [] o (omega arith) ∙ sym k_is in
-            passed_more (at + 2) (at + 2 + e.len) f (omega arith)
-
-        pub passed_other : (i ≡ o → ⊥) → Passed p o count (i + 1) (at + m) (at + 2) (at + 2 + e.len) asked stop
-        passed_other b =
-            let f = other g.seen k o (λ f. b (omega arith)) ∙ g.found in
-            passed_more asked stop f g.asked_in
+    pub passed_other : (i ≡ o → ⊥) → Passed p o count (i + 1) behind_it k asked
+    passed_other b = passed_more asked (other g.seen k o (λ f. b (omega arith)) ∙ g.found) g.few

@@ -2,6 +2,7 @@
 use mathlib.Core.Path.{◌≡◌, refl, sym, ap, ◌∙◌}
 use mathlib.Core.Bool.{Bool, true, false, cond}
 use mathlib.Core.List.{List, [], ◌∷◌, ◌++◌, append_assoc}
+use Rattle.std.specs.Prelude.{Option, Some, None}
 use Prim.Native.Nat.{ℕ, zero, suc, ◌+◌, ◌*◌, ◌^◌, ◌≤◌, ◌<◌}
 use native.Mathlib.Nat.{add-zero}
 use native.Mathlib.Omega.{arith}
@@ -10,7 +11,8 @@ use lib.Seq.{length-take-le}
 use borrow.Author.Tests.{leb-true, eqb-true, le-leb, eq-eqb}
 use Rattle.keys.specs.declared.orders.Wide.{Wide}
 use Rattle.octets.specs.Octets.{part, bytes, filled, all_zero}
-use Rattle.keys.specs.Keys.{Key, order, is_less, clear_wide}
+use Rattle.std.specs.Ordering.{is_lt}
+use Rattle.keys.specs.Keys.{Key, order, clear_wide}
 use Rattle.octets.specs.Tests.{all}
 use Rattle.octets.proofs.PartLaws.{length_part, part_two}
 use Rattle.octets.proofs.NumberLaws.{Bytes, bytes_part, bytes_drop, bytes_in}
@@ -23,8 +25,8 @@ use Rattle.store.specs.declared.namespaces.Label.{Label}
 use Rattle.legal.specs.declared.checks.Sums.{Sums}
 use Rattle.table.specs.Formats.{format_of}
 use Rattle.store.specs.Maps.{Pair, pair, keys, used, values}
-use Rattle.store.specs.Records.{record_of, records_of, key_length, place, value_length, owner, wide_in, pairs_in}
-use Rattle.legal.specs.Checks.{no_sums, slot_in, slot_tests, pass_over}
+use Rattle.store.specs.Records.{record_of, records_of, key_length, place, value_length, owner, wide_in, slot_in, pairs_in}
+use Rattle.legal.specs.Checks.{slot_tests, pass_over}
 use Rattle.store.proofs.NamespaceLaws.{Admitted, Permitted, format_bounds}
 use Rattle.store.proofs.RecordLaws.{length_record, sixteen_in, key_length_in, place_in, value_length_in, id_in, rest_in}
 
@@ -32,7 +34,7 @@ use Rattle.store.proofs.RecordLaws.{length_record, sixteen_in, key_length_in, pl
 abbrev passing : Label → ℕ → Wide → List ℕ → Bool
 passing h t w s = all (slot_tests h.id (format_of h.index) t w (slot_in s))
 
-abbrev pub pass : ℕ → Label → ℕ → ℕ → Wide → List ℕ → Sums
+abbrev pub pass : ℕ → Label → ℕ → ℕ → Wide → List ℕ → Option Sums
 pass n h t u w s = pass_over n h.id (format_of h.index) t u w s
 
 -- ---- one record
@@ -78,7 +80,6 @@ module _ {h : Label} (permits : Permitted h.index h.id h.size) where
     wide b = record { is = rw (sixteen, key_long); short = k16; bytes = rw sixteen at (bytes_part 0 16 s b (omega (arith, long))) }
 
     passes : {w : Wide} → Bytes s → Widened w j → t < 2 ^ 32 → passing h t w s ≡ true
-    unfolding slot_in
     passes b wj low =
         rw (
           le-leb 1 (key_length s) (omega (arith, key_long, f.some)),
@@ -96,7 +97,7 @@ module _ {h : Label} (permits : Permitted h.index h.id h.size) where
   -- bytes that pass are the record of the pair that stands in them
   fits : {t : ℕ} {w : Wide} {j : Key} (s vs : List ℕ) → Widened w j → Bytes s → 32 ≤ length s → value_length s ≤ length vs
       → passing h t w s ≡ true → Fit h t j (pair (take (key_length s) s) (take (value_length s) vs)) (drop 32 s) s
-  unfolding slot_in record_of part
+  unfolding record_of part
   fits {t} {w} {j} s vs wj b l m e =
       let k = key_length s in
       let a = all_true (slot_tests h.id (format_of h.index) t w (slot_in s)) e in
@@ -115,7 +116,7 @@ module _ {h : Label} (permits : Permitted h.index h.id h.size) where
             ∙ take-append-drop 32 s;
         below =
             less_true (order j (take k s))
-            (sym (ap is_less (widened_order wj (widened_part 0 k s b (omega arith) short padded))) ∙ a.1.1.1.1.1.0);
+            (sym (ap is_lt (widened_order wj (widened_part 0 k s b (omega arith) short padded))) ∙ a.1.1.1.1.1.0);
         some = omega (arith, leb-true 1 k a.0);
         short = omega arith;
         small = omega (arith, leb-true (value_length s) (format_of h.index).valuemax a.1.1.0);
@@ -123,19 +124,20 @@ module _ {h : Label} (permits : Permitted h.index h.id h.size) where
 
 -- ---- many records
 
-taken : (b : Bool) (x : Sums) → (cond b x no_sums).ok ≡ true → (b ≡ true) × (x.ok ≡ true)
-taken true x e = (refl, e)
-taken false x e = (e, cc)
+taken : (b : Bool) (o : Option Sums) {r : Sums} → cond b o None ≡ Some r → (b ≡ true) × (o ≡ Some r)
+taken true o e = (refl, e)
+taken false o e = absurd cc
 
 -- the sums only grow, the used room by no less than the total
-pub grows : (n : ℕ) (h : Label) (t u : ℕ) (w : Wide) (s : List ℕ) → (pass n h t u w s).ok ≡ true
-    → (t ≤ (pass n h t u w s).total) × ((pass n h t u w s).total + u ≤ (pass n h t u w s).used + t)
-unfolding pass_over slot_in
-grows zero h t u w s e = (omega arith, omega arith)
+pub grows : (n : ℕ) (h : Label) (t u : ℕ) (w : Wide) (s : List ℕ) {r : Sums} → pass n h t u w s ≡ Some r → (t ≤ r.total) × (r.total + u ≤ r.used + t)
+unfolding pass_over
+grows zero h t u w s {r} e =
+    let q : record { total = t; used = u } ≡ r = cc in
+    rw (← q) (omega arith, omega arith)
 grows (suc n) h t u w s e =
     let q = taken (passing h t w s) _ e in
     let g = grows n h (t + value_length s) (u + (key_length s + value_length s)) (wide_in s) (drop 32 s) q.1 in
-    rw q.0 (omega arith, omega arith)
+    (omega arith, omega arith)
 
 -- s begins with the records of m, which the format admits behind the key j
 pub record Stands (h : Label) (t : ℕ) (j : Key) (m : List Pair) (s : List ℕ) : Type 0 where
@@ -157,16 +159,15 @@ module _ {h : Label} (permits : Permitted h.index h.id h.size) where
   }
 
   -- records that pass are those of the pairs that stand in them
-  pub sound : (n t u : ℕ) {j : Key} {w : Wide} (s vs : List ℕ) → Widened w j → Bytes s → 32 * n ≤ length s
-      → (pass n h t u w s).ok ≡ true → (pass n h t u w s).total ≤ t + length vs → Stands h t j (pairs_in n s vs) s
-  unfolding pass_over slot_in
+  pub sound : (n t u : ℕ) {j : Key} {w : Wide} (s vs : List ℕ) {r : Sums} → Widened w j → Bytes s → 32 * n ≤ length s
+      → pass n h t u w s ≡ Some r → r.total ≤ t + length vs → Stands h t j (pairs_in n s vs) s
+  unfolding pass_over
   sound zero t u s vs wj b l e y = record { rest = s; image = refl; first = tt; rising = tt; admitted = tt }
   sound (suc n) t u {j} {w} s vs wj b l e y =
       let v = value_length s in
       let u2 = u + (key_length s + v) in
       let q = taken (passing h t w s) _ e in
       let g = grows n h (t + v) u2 (wide_in s) (drop 32 s) q.1 in
-      let z : (pass n h (t + v) u2 (wide_in s) (drop 32 s)).total ≤ t + length vs = rw q.0 at y in
       let f = fits permits s vs wj b (omega arith) (omega arith) q.0 in
       more f (value_long permits f)
       (sound n (t + v) u2 (drop 32 s) (drop v vs) (wide permits f b) (bytes_drop 32 s b) (omega (arith, length-drop 32 s)) q.1
@@ -174,8 +175,8 @@ module _ {h : Label} (permits : Permitted h.index h.id h.size) where
 
   -- the records of pairs pass
   pub complete : (m : List Pair) (t u : ℕ) {j : Key} {w : Wide} {s : List ℕ} → Stands h t j m s → Widened w j → Bytes s
-      → t + length (values m) < 2 ^ 32 → pass (length m) h t u w s ≡ record { ok = true; total = t + length (values m); used = u + used m }
-  unfolding pass_over slot_in
+      → t + length (values m) < 2 ^ 32 → pass (length m) h t u w s ≡ Some (record { total = t + length (values m); used = u + used m })
+  unfolding pass_over
   complete [] t u a wj b low = simp add-zero
   complete (p ∷ m) t u {j} {w} {s} a wj b low =
       let v = length p.value in

@@ -58,10 +58,11 @@ module _ {count slot size : ℕ} {s b₀ : List ℕ} where
     listed_done : fits (size - at) (drop j (keys_in count s)) ≡ [] → put 0 (bytes 4 (j - slot)) b ≡ listing count slot size s b₀
     listed_done e = sym (written_done b (drop j (keys_in count s)) (j - slot) at (size - at) e) ∙ l.is
 
-    pub listed_all : count ≤ j → put 0 (bytes 4 (j - slot)) b ≡ listing count slot size s b₀
+    pub listed_all : count ≤ j → put 0 (bytes 4 (count - slot)) b ≡ listing count slot size s b₀
     listed_all h =
         let n : length (keys_in count s) ≤ j = omega (arith, length_keys_in count s) in
-        listed_done (rw (drop_of_length-le (keys_in count s) n))
+        let e : count - slot ≡ j - slot = omega arith in
+        rw e (listed_done (rw (drop_of_length-le (keys_in count s) n)))
 
     -- the next key has n bytes, and its entry d
     module _ (n d : ℕ) (e : n ≡ key_length (slot_at j s)) (f : d ≡ entry_size n) (h : j < count) where

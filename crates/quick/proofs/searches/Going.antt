@@ -5,8 +5,8 @@ use mathlib.Core.List.{List, []}
 use Prim.Native.Nat.{ℕ, zero, suc, ◌+◌, ◌-◌, ◌*◌, ◌/◌, ◌≤◌, ◌<◌}
 use native.Mathlib.Omega.{arith}
 use lib.ListN.{length, drop}
-use Rattle.keys.specs.declared.orders.Order.{Order}
-use Rattle.keys.specs.declared.orders.Order.TheVariants.{Less, Equal, Greater}
+use Rattle.std.specs.declared.cmp.Ordering.{Ordering}
+use Rattle.std.specs.declared.cmp.Ordering.TheVariants.{Less, Equal, Greater}
 use Rattle.keys.specs.declared.orders.Wide.{Wide}
 use Rattle.keys.specs.Keys.{order_wide}
 use Rattle.store.specs.Records.{wide_in}
@@ -15,21 +15,21 @@ use Rattle.quick.specs.Known.{look_of}
 use Rattle.quick.proofs.SearchLaws.{search_less, search_here, search_greater}
 
 -- how the key compares with the one of slot j
-abbrev pub met : List ℕ → Wide → ℕ → Order
+abbrev pub met : List ℕ → Wide → ℕ → Ordering
 met s w j = order_wide w (wide_in (drop (32 * j) s))
 
-pub record Going (o : ℕ → Order) (first count low left looked : ℕ) : Type 0 where
+pub record Going (o : ℕ → Ordering) (first count low left looked : ℕ) : Type 0 where
   pub inside : low + left ≤ first + count
   pub fuel : looked + left ≤ count
   pub known : (search (count - looked) o low left).known ≡ (search count o first count).known
   pub looks : looked + length (search (count - looked) o low left).slots ≡ length (search count o first count).slots
 
-pub going_none : (o : ℕ → Order) (first count : ℕ) → Going o first count first count 0
+pub going_none : (o : ℕ → Ordering) (first count : ℕ) → Going o first count first count 0
 going_none o first count =
     let e : count - 0 ≡ count = omega arith in
     record { inside = omega arith; fuel = omega arith; known = rw e; looks = rw e (omega arith) }
 
-module _ {o : ℕ → Order} {first count low left looked : ℕ} (g : Going o first count low left looked) where
+module _ {o : ℕ → Ordering} {first count low left looked : ℕ} (g : Going o first count low left looked) where
   -- nothing is left
   pub going_past : left ≤ 0 → record { number = 0; known = 0; looked = looked } ≡ look_of 0 (search count o first count)
   going_past h =

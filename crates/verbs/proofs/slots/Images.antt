@@ -4,9 +4,11 @@ use Rattle.std.proofs.Common.{◌≡◌, ℕ, suc, ◌+◌, ◌-◌, ◌*◌, �
 use native.Mathlib.Decide.{dec_lt}
 use Rattle.octets.specs.Octets.{part, put, zeros}
 use Rattle.store.specs.Maps.{Pair, pair, values}
-use Rattle.store.specs.Records.{place, value_length, pairs_in}
+use Rattle.store.specs.declared.records.Record.{Record}
+use Rattle.store.specs.Records.{value_length, slot_in, pairs_in}
 use Rattle.store.specs.Parts.{Recorded, Holds, inserted, erased}
 use Rattle.store.specs.Slots.{pair_at, Standing}
+use Rattle.verbs.specs.declared.slots.Spot.{Spot}
 use Rattle.verbs.specs.Verbs.{record_in, record_out, place_for, CanInsert, CanRemove, CanReplace}
 use Rattle.store.proofs.PartsLaws.{length_pairs, records_long, values_long, pairs_held, held_again}
 use Rattle.store.proofs.SlotLaws.{recorded_cut, values_cut, whole, value_cut, recorded_at, place_at, value_length_at}
@@ -99,68 +101,79 @@ module _ {id n t : ℕ} {s vs : List ℕ} (c : Standing id n t s vs) where
     small = c.holds.small;
   }
 
-  place_is : (i : ℕ) → i ≤ n → place_for s i n t ≡ length (values (take i m))
+  place_is : (i : ℕ) → i ≤ n → place_for s (record { id = id; count = n; total = t; slot = i }) ≡ length (values (take i m))
   unfolding place_for
   place_is i l = elim (dec_lt i n) [
     | yes k ↦ rw (lt-ltb i n k) (place_at c.holds i (omega (arith, count)))
     | no k ↦ rw (le-ltb i n (omega arith), take_all i m (omega (arith, count))) c.total
   ]
 
-module _ {id n t i : ℕ} {k v s vs : List ℕ} (c : CanInsert id n t i k v s vs) where
-  pub insert_bounds : Bounds n t s vs × (place_for s i n t ≤ t)
+module _ {a : Spot} {k v s vs : List ℕ} (c : CanInsert a k v s vs) where
+  pub insert_bounds : Bounds a.count a.total s vs × (place_for s a ≤ a.total)
   insert_bounds =
-      (bounds c.standing, omega (arith, place_is c.standing i c.slot, values_cut i (pairs_in n s vs), c.standing.total))
+      (bounds c.standing, omega (arith, place_is c.standing a.slot c.slot, values_cut a.slot (pairs_in a.count s vs), c.standing.total))
 
-  pub insert_image : {q : ℕ} {s' vs' : List ℕ} → q ≡ place_for s i n t → vs' ≡ put q (v ++ part q (t - q) vs) vs
-      → s' ≡ record_in id q (pair k v) i (n - i) s → Holds id (length s) (length vs) (inserted i (pair k v) (pairs_in n s vs)) s' vs'
+  pub insert_image : {q : ℕ} {s' vs' : List ℕ} → q ≡ place_for s a → vs' ≡ put q (v ++ part q (a.total - q) vs) vs
+      → s' ≡ record_in a.id q (pair k v) a.slot (a.count - a.slot) s
+      → Holds a.id (length s) (length vs) (inserted a.slot (pair k v) (pairs_in a.count s vs)) s' vs'
   insert_image e ev es =
       let h = c.standing in
-      insert_holds h.holds n t i _ (count h) h.total (e ∙ place_is h i c.slot) k v _ _ c.slot c.free c.fits c.key ev es
+      insert_holds h.holds a.count a.total a.slot _ (count h) h.total (e ∙ place_is h a.slot c.slot) k v _ _ c.slot c.free c.fits c.key ev es
 
-module _ {id n t i : ℕ} {s vs : List ℕ} (c : CanRemove id n t i s vs) where
-  inside : i < length (pairs_in n s vs)
+module _ {a : Spot} {s vs : List ℕ} (c : CanRemove a s vs) where
+  abbrev r : Record
+  r = slot_in (drop (32 * a.slot) s)
+
+  inside : a.slot < length (pairs_in a.count s vs)
   inside = omega (arith, count c.standing, c.slot)
 
-  pub remove_bounds : Bounds n t s vs × (place (drop (32 * i) s) + value_length (drop (32 * i) s) ≤ t)
-  remove_bounds =
-      let h = c.standing in (
-        bounds h,
-        omega (arith, place_at h.holds i inside, value_length_at h.holds i inside, value_cut (pairs_in n s vs) i inside, h.total),
-      )
+  pub remove_bounds : Bounds a.count a.total s vs
+  remove_bounds = bounds c.standing
 
-  pub remove_image : {q w : ℕ} {s' vs' : List ℕ} (d : ℕ) → q ≡ place (drop (32 * i) s) → w ≡ value_length (drop (32 * i) s) → (d + w) % 2 ^ 32 ≡ 0
-      → vs' ≡ put q (part (q + w) (t - q - w) vs ++ zeros w) vs → s' ≡ record_out d i (n - (i + 1)) s
-      → Holds id (length s) (length vs) (erased i (pairs_in n s vs)) s' vs'
-  remove_image d eq ew ed ev es =
+  pub remove_inside : {x : Record} → x ≡ r → x.place + x.value_length ≤ a.total
+  remove_inside e =
       let h = c.standing in
-      remove_holds h.holds n t i _ (count h) h.total (eq ∙ place_at h.holds i inside) _ d _ _ c.slot
-      (ew ∙ value_length_at h.holds i inside) ed ev es
+      let m = pairs_in a.count s vs in
+      rw e (omega (arith, place_at h.holds a.slot inside, value_length_at h.holds a.slot inside, value_cut m a.slot inside, h.total))
+
+  -- x is what the record says, and d takes its value's length off
+  pub remove_image : {x : Record} {s' vs' : List ℕ} (d : ℕ) → x ≡ r → (d + x.value_length) % 2 ^ 32 ≡ 0
+      → vs' ≡ put x.place (part (x.place + x.value_length) (a.total - x.place - x.value_length) vs ++ zeros x.value_length) vs
+      → s' ≡ record_out d a.slot (a.count - (a.slot + 1)) s
+      → Holds a.id (length s) (length vs) (erased a.slot (pairs_in a.count s vs)) s' vs'
+  remove_image d e ed ev es =
+      let h = c.standing in
+      remove_holds h.holds a.count a.total a.slot _ (count h) h.total ((λ i. (e i).place) ∙ place_at h.holds a.slot inside) _ d _ _ c.slot
+      ((λ i. (e i).value_length) ∙ value_length_at h.holds a.slot inside) ed ev es
 
 -- ---- replace: after the old pair is out, the new one can go in
 
-module _ {id n t i : ℕ} {k v s vs s' vs' : List ℕ} (c : CanReplace id n t i k v s vs)
-    (g : Holds id (length s) (length vs) (erased i (pairs_in n s vs)) s' vs') where
+module _ {a : Spot} {k v s vs s' vs' : List ℕ} (c : CanReplace a k v s vs)
+    (g : Holds a.id (length s) (length vs) (erased a.slot (pairs_in a.count s vs)) s' vs') where
   abbrev old : List Pair
-  old = pairs_in n s vs
+  old = pairs_in a.count s vs
 
-  there : i < length old
+  there : a.slot < length old
   there = inside c.removes
 
-  fewer : length (erased i old) ≡ n - 1
-  fewer = length_erased i old there ∙ omega (arith, length_pairs n s vs)
+  fewer : length (erased a.slot old) ≡ a.count - 1
+  fewer = length_erased a.slot old there ∙ omega (arith, length_pairs a.count s vs)
 
-  left : pairs_in (n - 1) s' vs' ≡ erased i old
+  left : pairs_in (a.count - 1) s' vs' ≡ erased a.slot old
   left = rw fewer at (pairs_held g)
 
-  pub replace_can : (w : ℕ) → w ≡ value_length (drop (32 * i) s) → CanInsert id (n - 1) (t - w) i k v s' vs'
-  replace_can w e =
+  pub replace_can : (x : Record) → x ≡ slot_in (drop (32 * a.slot) s)
+      → CanInsert (record a { count = a.count - 1; total = a.total - x.value_length }) k v s' vs'
+  replace_can x e =
       let h = c.removes.standing in
-      let r = remove_bounds c.removes in
+      let b = remove_bounds c.removes in
+      let l = remove_inside c.removes e in
+      let w : x.value_length ≡ value_length (drop (32 * a.slot) s) = λ i. (e i).value_length in
       record {
         standing =
             record {
-              holds = held_again g (n - 1) fewer;
-              total = rw left (omega (arith, values_erased i old there, value_length_at h.holds i there, h.total));
+              holds = held_again g (a.count - 1) fewer;
+              total = rw left (omega (arith, values_erased a.slot old there, value_length_at h.holds a.slot there, h.total));
             };
         slot = omega (arith, c.removes.slot);
         free = omega (arith, records_long g, c.removes.slot);
@@ -168,6 +181,7 @@ module _ {id n t i : ℕ} {k v s vs s' vs' : List ℕ} (c : CanReplace id n t i 
         key = c.key;
       }
 
-  pub replace_image : {s'' vs'' : List ℕ} → Holds id (length s') (length vs') (inserted i (pair k v) (pairs_in (n - 1) s' vs')) s'' vs''
-      → Holds id (length s) (length vs) (inserted i (pair k v) (erased i old)) s'' vs''
+  pub replace_image : {s'' vs'' : List ℕ}
+      → Holds a.id (length s') (length vs') (inserted a.slot (pair k v) (pairs_in (a.count - 1) s' vs')) s'' vs''
+      → Holds a.id (length s) (length vs) (inserted a.slot (pair k v) (erased a.slot old)) s'' vs''
   replace_image f = rw (left, records_long g, values_long g) at f

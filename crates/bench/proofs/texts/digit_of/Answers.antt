@@ -2,8 +2,8 @@ use native.Mathlib.Omega.{arith}
 use borrow.Author.Tests.{lt-ltb, le-ltb}
 use Rattle.bench.proofs.texts.digit_of.Goals as goal
 
-pub returns-then-n-lt10 : goal.returns-then-n-lt10
-returns-then-n-lt10 c = rw (lt-ltb _ 10 c.if-n-lt10.true)
+pub returns-in-0-to-9 : goal.returns-in-0-to-9
+returns-in-0-to-9 c = rw (lt-ltb c.args.n 10 (omega arith))
 
-pub returns : goal.returns
-returns c = rw (le-ltb _ 10 c.if-n-lt10.false) (omega arith)
+pub returns-in_default : goal.returns-in_default
+returns-in_default c = rw (le-ltb c.args.n 10 (omega arith)) (omega arith)

@@ -3,11 +3,11 @@ use native.Mathlib.Omega.{arith}
 use Rattle.bench.specs.Turn.{given_of}
 use Rattle.bench.proofs.turns.given_of.Goals as goal
 
-pub returns-then-is_list : goal.returns-then-is_list
+pub returns-then-is : goal.returns-then-is
 unfolding given_of
-returns-then-is_list c =
+returns-then-is c =
     record {
-      value = c.page_span.ensures.value ∙ rw (← c.is_list.ensures, c.if-is_list.true);
+      value = c.page_span.ensures.value ∙ rw (← c.is.ensures, c.if-is.true);
       upper_bound = c.page_span.ensures.upper_bound;
     }
 
@@ -15,6 +15,6 @@ pub returns : goal.returns
 unfolding given_of
 returns c =
     record {
-      value = c.least-2.ensures ∙ rw (← c.is_list.ensures, c.if-is_list.false, c.least.ensures);
+      value = c.min-2.ensures ∙ rw (← c.is.ensures, c.if-is.false, c.min.ensures);
       upper_bound = omega arith;
     }

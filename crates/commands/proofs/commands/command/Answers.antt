@@ -2,15 +2,17 @@ use borrow.Author.Tests.{eq-eqb, ne_eqb}
 use Rattle.commands.specs.Command.{command}
 use Rattle.commands.proofs.commands.command.Goals as goal
 
-pub returns-then-entry-ne64 : goal.returns-then-entry-ne64
+pub returns-in_default : goal.returns-in_default
 unfolding command
-returns-then-entry-ne64 c = rw (ne_eqb _ 64 c.if-entry-ne64.true)
+returns-in_default c = rw (ne_eqb _ 64 c.in_default.ensures.cases)
 
-pub returns-then-completion-ne16 : goal.returns-then-completion-ne16
+pub returns-in_default-as_mut_array : goal.returns-in_default-as_mut_array
 unfolding command
-returns-then-completion-ne16 c = rw (eq-eqb _ 64 c.if-entry-ne64.false, ne_eqb _ 16 c.if-completion-ne16.true)
+returns-in_default-as_mut_array c = rw (eq-eqb _ 64 c.in-Some.ensures.cases.long, ne_eqb _ 16 c.in_default-as_mut_array.ensures.cases)
 
 pub returns : goal.returns
 unfolding command
 returns c =
-    rw (eq-eqb _ 64 c.if-entry-ne64.false, eq-eqb _ 16 c.if-completion-ne16.false, ← c.read_entry.ensures, ← c.step.ensures)
+    let e = c.in-Some.ensures.cases in
+    let a = c.in-Some-as_mut_array.ensures.cases in
+    rw (eq-eqb _ 64 e.long, eq-eqb _ 16 a.long, ← e.same, ← a.same, ← c.read_entry.ensures, ← c.step.ensures)

@@ -1,50 +1,61 @@
 use native.Mathlib.Omega.{arith}
+use mathlib.Core.Path.{◌≡◌, sym}
+use Prim.Native.Nat.{ℕ}
 use lib.ListN.{length-take}
-use borrow.Author.Tests.{ne_eqb}
-use Rattle.commands.proofs.effects.Effects.{value_lent, can_put, stored_is, can_hand, handed_is, can_list, listed_is, can_erase, erased_is, unchanged}
+use Rattle.std.specs.Prelude.{Result, Ok}
+use Rattle.wire.specs.declared.entries.Opcode.{Opcode}
+use Rattle.wire.specs.declared.entries.UnknownOpcode.{UnknownOpcode}
+use Rattle.wire.specs.Entry.{byte_of, Names}
+use Rattle.commands.proofs.effects.Effects.{is_known, value_lent, can_put, stored_is, can_hand, handed_is, can_list, listed_is, can_erase, erased_is, unchanged}
 use Rattle.commands.proofs.effects.perform.Goals as goal
+
+-- in the arm of an opcode the command has its byte
+arm : {op : ℕ} {r : Result Opcode UnknownOpcode} {x o : Opcode} → Names op r → r ≡ Ok x → x ≡ o → op ≡ byte_of o
+arm n e f = sym (rw (e, f) at n)
+
+pub unwrap-requires : goal.unwrap-requires
+unwrap-requires c = is_known c.args.buffer.now c.requires _ c.try_from.ensures
 
 pub slice_bounds-put-end : goal.slice_bounds-put-end
 slice_bounds-put-end c =
-    omega (arith, value_lent c.args.buffer.now c.requires c.if-c-eq-STORE.true)
+    omega (arith, value_lent c.args.buffer.now c.requires (arm c.try_from.ensures c.unwrap.ensures c.in-Store.is))
 
-pub slice_bounds-put-end-then-c-eq-STORE : goal.slice_bounds-put-end-then-c-eq-STORE
-slice_bounds-put-end-then-c-eq-STORE c =
-    simp length-take (omega (arith, value_lent c.args.buffer.now c.requires c.if-c-eq-STORE.true))
+pub slice_bounds-put-end-in-Store : goal.slice_bounds-put-end-in-Store
+slice_bounds-put-end-in-Store c =
+    simp length-take (omega (arith, value_lent c.args.buffer.now c.requires (arm c.try_from.ensures c.unwrap.ensures c.in-Store.is)))
 
 pub put-requires : goal.put-requires
 put-requires c =
-    can_put _ c.requires c.if-c-eq-STORE.true
+    can_put _ c.requires (arm c.try_from.ensures c.unwrap.ensures c.in-Store.is)
 
-pub returns-then-c-eq-STORE : goal.returns-then-c-eq-STORE
-returns-then-c-eq-STORE c =
-    stored_is _ c.requires c.if-c-eq-STORE.true c.put.ensures
+pub returns-in-Store : goal.returns-in-Store
+returns-in-Store c =
+    stored_is _ c.requires (arm c.try_from.ensures c.unwrap.ensures c.in-Store.is) c.put.ensures
 
 pub hand_over-requires : goal.hand_over-requires
 hand_over-requires c =
-    can_hand _ c.requires c.if-c-eq-RETRIEVE.true
+    can_hand _ c.requires (arm c.try_from.ensures c.unwrap.ensures c.in-Retrieve.is)
 
-pub returns-then-c-eq-RETRIEVE : goal.returns-then-c-eq-RETRIEVE
-returns-then-c-eq-RETRIEVE c =
-    handed_is _ c.requires c.if-c-eq-RETRIEVE.true c.hand_over.ensures
+pub returns-in-Retrieve : goal.returns-in-Retrieve
+returns-in-Retrieve c =
+    handed_is _ c.requires (arm c.try_from.ensures c.unwrap.ensures c.in-Retrieve.is) c.hand_over.ensures
 
 pub list_keys-requires : goal.list_keys-requires
 list_keys-requires c =
-    can_list _ c.requires c.if-c-eq-LIST.true
+    can_list _ c.requires (arm c.try_from.ensures c.unwrap.ensures c.in-List.is)
 
-pub returns-then-c-eq-LIST : goal.returns-then-c-eq-LIST
-returns-then-c-eq-LIST c =
-    listed_is _ c.requires c.if-c-eq-LIST.true c.list_keys.ensures
+pub returns-in-List : goal.returns-in-List
+returns-in-List c =
+    listed_is _ c.requires (arm c.try_from.ensures c.unwrap.ensures c.in-List.is) c.list_keys.ensures
 
 pub erase-requires : goal.erase-requires
 erase-requires c =
-    can_erase c.args.buffer.now c.requires c.if-c-eq-DELETE.true
+    can_erase c.args.buffer.now c.requires (arm c.try_from.ensures c.unwrap.ensures c.in-Delete.is)
 
-pub returns-then-c-eq-DELETE : goal.returns-then-c-eq-DELETE
-returns-then-c-eq-DELETE c =
-    erased_is _ c.requires c.if-c-eq-DELETE.true c.erase.ensures
+pub returns-in-Delete : goal.returns-in-Delete
+returns-in-Delete c =
+    erased_is _ c.requires (arm c.try_from.ensures c.unwrap.ensures c.in-Delete.is) c.erase.ensures
 
-pub returns-else-c-eq-DELETE : goal.returns-else-c-eq-DELETE
-returns-else-c-eq-DELETE c =
-    unchanged _ c.requires
-    (ne_eqb _ _ c.if-c-eq-STORE.false) (ne_eqb _ _ c.if-c-eq-RETRIEVE.false) (ne_eqb _ _ c.if-c-eq-LIST.false) (ne_eqb _ _ c.if-c-eq-DELETE.false)
+pub returns-in-Exist : goal.returns-in-Exist
+returns-in-Exist c =
+    unchanged _ c.requires (arm c.try_from.ensures c.unwrap.ensures c.in-Exist.is)

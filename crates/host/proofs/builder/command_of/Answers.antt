@@ -1,6 +1,7 @@
+use borrow.Author.Rules.{rules}
 use Rattle.host.specs.Build.{command}
 use Rattle.host.proofs.builder.command_of.Goals as goal
 
 pub returns : goal.returns
 unfolding command
-returns c = simp (c.pad.ensures, c.options_of.ensures, c.amount_of.ensures)
+returns c = search rules

@@ -7,5 +7,5 @@ use Rattle.keys.proofs.wide.read_big.Goals as goal
 pub returns : goal.returns
 unfolding big
 returns c =
-    let h = c.before.before.before.before.before.before.before.before.before.before.requires in
-    rw (part_each 8) (omega (arith, simp towards_suc at c.big64.ensures))
+    let h = c.requires in
+    rw (part_each 8) (omega (arith, simp towards_suc at c.from_be_bytes.ensures))

@@ -1,21 +1,17 @@
-use mathlib.Core.Path.{refl}
-use mathlib.Core.Bool.{true, false}
-use native.Mathlib.Omega.{arith}
-use Rattle.octets.specs.Octets.{part}
-use Rattle.octets.proofs.runs.Loops.{passed_part, passed_rest}
+use mathlib.Core.Path.{◌∙◌}
+use Rattle.std.proofs.Common.{rules}
+use Rattle.std.proofs.lemmas.Iterator.{YieldsList-from_slice}
+use Rattle.std.proofs.lemmas.Iterator.Search.{all_from_yields_List}
+use Rattle.octets.specs.Octets.{all_zero}
+use Rattle.octets.proofs.ZeroLaws.{zero_parts}
 use Rattle.octets.proofs.runs.all_zero.Goals as goal
 
-pub loop-i-init : goal.loop-i-init
-loop-i-init c = record { within = omega arith; is = refl }
+pub returns-then-all : goal.returns-then-all
+returns-then-all c =
+    let b = all_from_yields_List all_zero _ _ c.all.result c.all.ensures.ran (YieldsList-from_slice _ c.iter.ensures.rest) (λ x b q k. search rules) in
+    c.zero_run.ensures ∙ rw c.if-all.true at (zero_parts 1024 _ _ b c.as_chunks.ensures.front c.as_chunks.ensures.back)
 
-pub returns-then-not-zero_run : goal.returns-then-not-zero_run
-unfolding part
-returns-then-not-zero_run c = (passed_part 1024 false c.before.before.before.before.loop-i.invariant c.before.zero_run.ensures c.if-not-zero_run.true (omega arith)).is
-
-pub loop-i-preserved : goal.loop-i-preserved
-unfolding part
-loop-i-preserved c = passed_part 1024 true c.before.before.before.before.loop-i.invariant c.before.zero_run.ensures c.if-not-zero_run.false (omega arith)
-
-pub returns : goal.returns
-unfolding part
-returns c = passed_rest c.before.before.before.loop-i.invariant c.zero_run-2.ensures
+pub returns-else-all : goal.returns-else-all
+returns-else-all c =
+    let b = all_from_yields_List all_zero _ _ c.all.result c.all.ensures.ran (YieldsList-from_slice _ c.iter.ensures.rest) (λ x b q k. search rules) in
+    c.if-all.false ∙ rw c.if-all.false at (zero_parts 1024 _ _ b c.as_chunks.ensures.front c.as_chunks.ensures.back)

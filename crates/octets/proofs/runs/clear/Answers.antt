@@ -1,14 +1,11 @@
-use mathlib.Core.Path.{refl}
+use mathlib.Core.Path.{ap, ◌∙◌}
+use Prim.Native.Nat.{ℕ}
 use native.Mathlib.Omega.{arith}
-use lib.ListN.{length-replicate, get_or-replicate}
-use Rattle.octets.proofs.runs.Loops.{forward_none, forward_more, forward_done}
+use lib.ListN.{replicate, length-replicate, length-take, length-drop}
+use Rattle.octets.proofs.PartLaws.{lent_all}
 use Rattle.octets.proofs.runs.clear.Goals as goal
 
-pub loop-k-init : goal.loop-k-init
-loop-k-init c = forward_none (length-replicate _ 0) (omega arith)
-
-pub loop-k-preserved : goal.loop-k-preserved
-loop-k-preserved c = forward_more _ _ c.before.loop-k.invariant (omega arith) refl (λ h. rw get_or-replicate)
-
 pub returns : goal.returns
-returns c = search forward_done
+returns c =
+    lent_all _ _ _ _ (c.fill.ensures.after (λ y e. e) ∙ ap (λ (n : ℕ). replicate n 0) (simp (length-take, length-drop) (omega arith)))
+    (rw length-replicate (omega arith))

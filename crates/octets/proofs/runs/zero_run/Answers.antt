@@ -1,13 +1,11 @@
-use mathlib.Core.Path.{refl}
-use native.Mathlib.Omega.{arith}
-use Rattle.octets.proofs.runs.Loops.{passed_byte, passed_all}
+use lib.Bits.{bit_or}
+use Rattle.std.proofs.Common.{rules}
+use Rattle.std.proofs.lemmas.Iterator.{YieldsList-from_slice}
+use Rattle.std.proofs.lemmas.Iterator.Consumers.{fold_from_yields_List}
+use Rattle.octets.proofs.ZeroLaws.{zero_joined}
 use Rattle.octets.proofs.runs.zero_run.Goals as goal
 
-pub loop-i-init : goal.loop-i-init
-loop-i-init c = record { within = omega arith; is = refl }
-
-pub loop-i-preserved : goal.loop-i-preserved
-loop-i-preserved c = passed_byte c.before.before.loop-i.seen c.before.before.loop-i.invariant (omega arith)
-
 pub returns : goal.returns
-returns c = passed_all c.before.loop-i.invariant (omega arith)
+returns c =
+    let e = fold_from_yields_List _ bit_or _ c.fold.result c.fold.ensures.ran (YieldsList-from_slice c.args.s.now c.iter.ensures.rest) (λ a x b q k. search rules) in
+    rw e (zero_joined 0 c.args.s.now)

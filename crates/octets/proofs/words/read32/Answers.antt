@@ -1,9 +1,8 @@
-use native.Mathlib.Numerals.{towards_suc}
+use mathlib.Core.Path.{◌∙◌}
 use native.Mathlib.Omega.{arith}
-use Rattle.octets.specs.Octets.{number}
-use Rattle.octets.proofs.PartLaws.{part_each}
+use Rattle.std.specs.Int.{w32}
+use Rattle.octets.proofs.NumberLaws.{number_le}
 use Rattle.octets.proofs.words.read32.Goals as goal
 
 pub returns : goal.returns
-unfolding number
-returns c = let h = c.before.before.before.before.before.before.requires in rw (part_each 4) (omega (arith, simp towards_suc at c.number32.ensures))
+returns c = c.from_le_bytes.ensures ∙ rw c.bytes_at.ensures (number_le w32 _ _ (omega arith) c.requires)

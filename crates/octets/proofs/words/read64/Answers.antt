@@ -1,5 +1,8 @@
-use Rattle.octets.proofs.NumberLaws.{number_two}
+use mathlib.Core.Path.{◌∙◌}
+use native.Mathlib.Omega.{arith}
+use Rattle.std.specs.Int.{w64}
+use Rattle.octets.proofs.NumberLaws.{number_le}
 use Rattle.octets.proofs.words.read64.Goals as goal
 
 pub returns : goal.returns
-returns c = rw (c.number64.ensures, c.before.read32-2.ensures, c.before.before.read32.ensures) (number_two _ _ c.before.before.before.before.requires)
+returns c = c.from_le_bytes.ensures ∙ rw c.bytes_at.ensures (number_le w64 _ _ (omega arith) c.requires)

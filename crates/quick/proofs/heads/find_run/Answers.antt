@@ -1,48 +1,53 @@
+use Rattle.std.proofs.Common.{rules}
 use mathlib.Core.Path.{◌∙◌}
 use native.Mathlib.Omega.{arith}
+use lib.ListN.{length}
 use borrow.Author.Tests.{lt-leb}
 use Rattle.octets.specs.Octets.{part}
+use Rattle.memory.specs.Memory.{label_at}
 use Rattle.quick.specs.Heads.{run_by, run_of}
-use Rattle.quick.proofs.ClaimLaws.{first_6, second_6, claims, short_6, chosen_run}
+use Rattle.quick.proofs.ClaimLaws.{claimed, claims_small, first_6, second_6, short_6, chosen_run}
 use Rattle.quick.proofs.heads.find_run.Goals as goal
 
 pub returns-then-directory-lt-HEAD : goal.returns-then-directory-lt-HEAD
 unfolding run_of run_by
-returns-then-directory-lt-HEAD c = rw (c.no_run.ensures, lt-leb _ _ c.if-directory-lt-HEAD.true)
+returns-then-directory-lt-HEAD c = rw (lt-leb _ _ c.if-directory-lt-HEAD.true)
 
-pub returns-then-not-a : goal.returns-then-not-a
+pub returns-in_err-a : goal.returns-in_err-a
 unfolding run_of part
-returns-then-not-a c =
-    c.no_run-then-not-a.ensures ∙ first_6 _ _ _ _ _ c.judge-a.ensures c.if-not-a.true
+returns-in_err-a c =
+    let a = c.args in
+    let d = a.directory.now in
+    search (rules, first_6 a.id (label_at 0 d) (label_at 32 d) (length d) (length a.values.now) c.in_err-a.ensures)
 
-pub returns-then-not-b : goal.returns-then-not-b
+pub returns-in_err-b : goal.returns-in_err-b
 unfolding run_of part
-returns-then-not-b c =
-    c.no_run-then-not-b.ensures ∙ second_6 _ _ _ _ _ c.judge-b.ensures c.if-not-b.true
+returns-in_err-b c =
+    let a = c.args in
+    let d = a.directory.now in
+    search (rules, second_6 a.id (label_at 0 d) (label_at 32 d) (length d) (length a.values.now) c.in_err-b.ensures)
 
 pub overflow_add-end : goal.overflow_add-end
-overflow_add-end c =
-    let s = claims 0 _ _ 0 0 c.judge-a.ensures c.judge-b.ensures c.if-not-a.false c.if-not-b.false in
-    omega (arith, s.0.slots, s.1.slots, s.0.may.slots, s.1.may.slots)
+overflow_add-end c = omega (arith, (claims_small _ _ c.in_ok-a.ensures c.in_ok-b.ensures).0)
+
+pub overflow_mul-end : goal.overflow_mul-end
+overflow_mul-end c = omega (arith, (claims_small _ _ c.in_ok-a.ensures c.in_ok-b.ensures).0)
+
+pub overflow_add-end-2 : goal.overflow_add-end-2
+overflow_add-end-2 c = omega (arith, (claims_small _ _ c.in_ok-a.ensures c.in_ok-b.ensures).0)
 
 pub overflow_add-stop : goal.overflow_add-stop
-overflow_add-stop c =
-    let s = claims 0 _ _ 0 0 c.judge-a.ensures c.judge-b.ensures c.if-not-a.false c.if-not-b.false in
-    omega (arith, s.0.size, s.1.size, s.0.may.size, s.1.may.size)
+overflow_add-stop c = omega (arith, (claims_small _ _ c.in_ok-a.ensures c.in_ok-b.ensures).1)
 
 pub returns-then-directory-end : goal.returns-then-directory-end
 unfolding run_of part
 returns-then-directory-end c =
-    c.no_run-then-directory-end.ensures
-    ∙ short_6 _ _ _ _ _ c.judge-a.ensures c.judge-b.ensures c.if-not-a.false c.if-not-b.false c.if-directory-end.true
+    short_6 _ _ _ _ _ c.in_ok-a.ensures c.in_ok-b.ensures c.if-directory-end.true
 
-pub choose-requires : goal.choose-requires
-unfolding part
-choose-requires c =
-    (c.if-directory-lt-HEAD.false, (claims 0 _ _ 0 0 c.judge-a.ensures c.judge-b.ensures c.if-not-a.false c.if-not-b.false).0.slots)
+pub choose-requires-clause-slots : goal.choose-requires-clause-slots
+choose-requires-clause-slots c = (claimed _ c.in_ok-a.ensures).slots
 
 pub returns : goal.returns
 unfolding run_of part
 returns c =
-    c.choose.ensures
-    ∙ chosen_run _ _ _ _ _ c.judge-a.ensures c.judge-b.ensures c.if-not-a.false c.if-not-b.false c.if-directory-end.false
+    c.choose.ensures ∙ chosen_run _ _ _ _ _ c.in_ok-a.ensures c.in_ok-b.ensures c.if-directory-end.false

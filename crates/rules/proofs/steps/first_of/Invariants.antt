@@ -1,13 +1,8 @@
-use mathlib.Core.Path.{◌≡◌}
-use mathlib.Core.List.{map}
-use Prim.Native.Nat.{◌-◌}
-use lib.ListN.{length, drop}
+use Rattle.std.proofs.Common.{◌≡◌, cond, map, drop, is_ok}
+use Rattle.refusals.specs.Refusals.{code_in}
 use Rattle.octets.specs.Tests.{first_of}
 use Rattle.rules.specs.Steps.{row_of}
 use Rattle.rules.proofs.steps.first_of.Given as goal
 
-abbrev pub invariant-loop-i : goal.invariant-loop-i
-invariant-loop-i l = first_of (map row_of (drop l.i l.rows)) ≡ first_of (map row_of l.rows)
-
-abbrev pub decreases-loop-i : goal.decreases-loop-i
-decreases-loop-i l = length l.rows - l.i
+abbrev pub invariant-loop-row : goal.invariant-loop-row
+invariant-loop-row g l = cond (is_ok l.outcome) (first_of (map row_of (drop l.row-index l.rows))) (code_in l.outcome) ≡ first_of (map row_of l.rows)

@@ -1,26 +1,39 @@
+use mathlib.Core.Path.{refl, ap, ◌∙◌}
 use mathlib.Core.List.{[]}
-use Rattle.wire.specs.Completion.{post}
-use Rattle.scratch.specs.Calls.{filling, slices}
-use Rattle.scratch.proofs.CallLaws.{call_refused, call_done, lengths}
+use native.Mathlib.Omega.{arith}
+use borrow.Author.Rules.{rules}
+use Rattle.ranges.specs.Request.{read_request}
+use Rattle.refusals.proofs.Counted.{number_counts}
+use Rattle.scratch.specs.Calls.{filling, slices, memory_call}
+use Rattle.scratch.proofs.CallLaws.{no_entry, no_completion, both_whole, call_refused, call_done}
 use Rattle.scratch.proofs.calls.memory_fill.Goals as goal
 
-pub returns-then-number-ne0 : goal.returns-then-number-ne0
-returns-then-number-ne0 c =
+pub returns-in_default : goal.returns-in_default
+returns-in_default c =
     let a = c.args in
-    call_refused _ (slices a.completion.now [] a.memory.now) c.number_for-number.ensures (filling _) _ _ c.if-number-ne0.true
+    let s = slices a.completion.now [] a.memory.now in
+    call_refused _ s (no_entry _ s c.in_default.ensures.cases) (filling a.word) _ _ (omega arith)
 
-pub read_request-q-requires : goal.read_request-q-requires
-read_request-q-requires c =
+pub returns-in_default-as_mut_array : goal.returns-in_default-as_mut_array
+returns-in_default-as_mut_array c =
     let a = c.args in
-    (lengths a.entry.now (slices a.completion.now [] a.memory.now) c.number_for-number.ensures c.if-number-ne0.false).0
+    let s = slices a.completion.now [] a.memory.now in
+    call_refused _ s (no_completion _ s c.in-Some.ensures.cases.long c.in_default-as_mut_array.ensures.cases) (filling a.word) _ _ (omega arith)
 
-pub conclude-requires : goal.conclude-requires
-conclude-requires c =
+pub returns-in_err-check_length : goal.returns-in_err-check_length
+unfolding memory_call
+returns-in_err-check_length c =
     let a = c.args in
-    (lengths a.entry.now (slices a.completion.now [] a.memory.now) c.number_for-number.ensures c.if-number-ne0.false).1
+    let s = slices a.completion.now [] a.memory.now in
+    let k = c.in-Some-as_mut_array.ensures.cases in
+    let n = c.in_err-check_length.ensures ∙ both_whole a.entry.now s c.in-Some.ensures.cases.long k.long in
+    rw (k.same, ← n, number_counts c.in_err-check_length.field-0.0) (search rules)
 
 pub returns : goal.returns
 returns c =
     let a = c.args in
-    call_done _ (slices a.completion.now [] a.memory.now) c.number_for-number.ensures (filling a.word) (post a.head a.queue a.phase) a.id
-    c.if-number-ne0.false c.read_request-q.ensures c.fill_up-status.ensures c.conclude.ensures
+    let s = slices a.completion.now [] a.memory.now in
+    let e = c.in-Some.ensures.cases in
+    let n = c.in_ok-check_length.ensures ∙ both_whole _ s e.long c.in-Some-as_mut_array.ensures.cases.long in
+    call_done a.entry.now s n (filling a.word) _ _ refl
+    (c.read-request.ensures ∙ ap read_request e.same) c.fill_up-outcome.ensures c.conclude.ensures

@@ -1,12 +1,8 @@
-use Prim.Native.Nat.{◌+◌, ◌*◌, ◌-◌, ◌≤◌}
-use lib.ListN.{length}
-use Rattle.octets.specs.Octets.{bytes}
+use mathlib.Core.Path.{◌≡◌}
+use Prim.Native.Nat.{◌*◌}
+use Rattle.octets.specs.Octets.{put, bytes}
 use Rattle.scratch.specs.Calls.{over}
-use Rattle.scratch.proofs.MoveLaws.{Laid}
 use Rattle.scratch.proofs.moves.fill_long.Given as goal
 
 abbrev pub invariant-loop-i : goal.invariant-loop-i
-invariant-loop-i l = (l.at + 4 * l.n ≤ length l.initial.memory) × (l.i ≤ l.n) × Laid l.at (over l.i (bytes 4 l.word)) l.initial.memory l.memory
-
-abbrev pub decreases-loop-i : goal.decreases-loop-i
-decreases-loop-i l = l.n - l.i
+invariant-loop-i l = l.memory ≡ put l.at (over (64 * l.i) (bytes 4 l.word)) l.initial.memory

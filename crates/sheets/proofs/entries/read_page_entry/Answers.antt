@@ -1,36 +1,42 @@
-use mathlib.Core.Path.{sym, ap, ◌∙◌}
+use mathlib.Core.Path.{sym, ◌∙◌}
+use native.Mathlib.Omega.{arith}
 use borrow.Author.Rules.{rules}
+use borrow.Author.Tests.{ltb-false}
 use Rattle.octets.specs.Octets.{part}
-use Rattle.keys.specs.Keys.{is_less}
+use Rattle.octets.proofs.TestLaws.{neither}
+use Rattle.keys.proofs.OrderLaws.{slice_less}
 use Rattle.sheets.proofs.PageLaws.{first_short, first_sized, first_cut, first_unpadded, first_low, first_read}
 use Rattle.sheets.proofs.entries.read_page_entry.Goals as goal
 
-pub returns-then-rest-lt2 : goal.returns-then-rest-lt2
-returns-then-rest-lt2 c = c.refused.ensures ∙ sym (search first_short)
+pub returns-then-rest-lt2-clause-value : goal.returns-then-rest-lt2-clause-value
+returns-then-rest-lt2-clause-value c = sym (search first_short)
 
-pub returns-then-n : goal.returns-then-n
-returns-then-n c = c.refused-then-n.ensures ∙ sym (search (rules, first_sized))
+pub returns-then-n-clause-value : goal.returns-then-n-clause-value
+returns-then-n-clause-value c = sym (search (rules, first_sized))
 
-pub returns-then-rest-size : goal.returns-then-rest-size
-returns-then-rest-size c = c.refused-then-rest-size.ensures ∙ sym (search (rules, first_cut))
+pub returns-then-rest-size-clause-value : goal.returns-then-rest-size-clause-value
+returns-then-rest-size-clause-value c = sym (search (rules, first_cut))
 
 -- below, z says whether zeros stand behind the key, and b whether the key is above the one before it
-pub returns-then-not-all_zero : goal.returns-then-not-all_zero
+pub returns-then-not-all_zero-clause-value : goal.returns-then-not-all_zero-clause-value
 unfolding part
-returns-then-not-all_zero c =
+returns-then-not-all_zero-clause-value c =
     let z = sym c.all_zero.ensures ∙ c.if-not-all_zero.true in
-    c.refused-then-not-all_zero.ensures ∙ sym (search (rules, first_unpadded))
+    sym (search (rules, first_unpadded))
 
-pub returns-then-not-is_less : goal.returns-then-not-is_less
+pub returns-then-not-rising-clause-value : goal.returns-then-not-rising-clause-value
 unfolding part
-returns-then-not-is_less c =
+returns-then-not-rising-clause-value c =
     let z = sym c.all_zero.ensures ∙ c.if-not-all_zero.false in
-    let b = ap is_less (sym c.compare.ensures) ∙ sym c.is_less.ensures ∙ c.if-not-is_less.true in
-    c.refused-then-not-is_less.ensures ∙ sym (search (rules, first_low))
+    let b = sym (slice_less c.args.before.now (part 2 _ c.args.rest.now)) ∙ sym c.lt-rising.ensures ∙ c.if-not-rising.true in
+    sym (search (rules, first_low))
 
-pub returns : goal.returns
+pub returns-clause-value : goal.returns-clause-value
 unfolding part
-returns c =
+returns-clause-value c =
     let z = sym c.all_zero.ensures ∙ c.if-not-all_zero.false in
-    let b = ap is_less (sym c.compare.ensures) ∙ sym c.is_less.ensures ∙ c.if-not-is_less.false in
+    let b = sym (slice_less c.args.before.now (part 2 _ c.args.rest.now)) ∙ sym c.lt-rising.ensures ∙ c.if-not-rising.false in
     sym (search (rules, first_read))
+
+pub returns-clause-fits : goal.returns-clause-fits
+returns-clause-fits c = (ltb-false 16 _ (neither _ _ c.if-n.false).1, omega arith)

@@ -1,10 +1,11 @@
-use Rattle.std.proofs.Common.{◌≡◌, ℕ, List, length, true, take, drop, sym, ◌∙◌, arith}
+use Rattle.std.proofs.Common.{◌≡◌, ℕ, List, length, true, take, drop, sym, ◌∙◌, arith, le-ltb}
 use Rattle.octets.specs.Octets.{part, all_zero}
 use Rattle.keys.specs.declared.orders.Wide.{Wide}
-use Rattle.keys.specs.Keys.{is_less, is_equal, wide_of, Padded}
+use Rattle.std.specs.Ordering.{is_lt, is_eq}
+use Rattle.keys.specs.Keys.{wide_of, Padded}
 use Rattle.octets.proofs.NumberLaws.{Bytes, array_bytes}
 use Rattle.octets.proofs.PartLaws.{part_whole}
-use Rattle.keys.proofs.WideLaws.{Widened, widened_part}
+use Rattle.keys.proofs.WideLaws.{Widened, widened_part, wide_less, wide_equal}
 use Rattle.store.proofs.finds.Halves.{tested, halved_none, halved_up, halved_down, halved_found, halved_past}
 use Rattle.store.proofs.finds.find.Goals as goal
 
@@ -18,21 +19,22 @@ wanted_given n k e b l p =
 pub loop-low-init : goal.loop-low-init
 loop-low-init c = halved_none _ _ _
 
-pub loop-low-preserved-then-less : goal.loop-low-preserved-then-less
-loop-low-preserved-then-less c =
-    let t = tested is_less _ c.wide_at.ensures c.less.ensures in
-    halved_up c.requires.0 (λ i l. (c.type_inv.records i).fits) _ c.loop-low.invariant (sym t ∙ c.if-less.true) (omega arith)
+pub loop-low-preserved-then-lt : goal.loop-low-preserved-then-lt
+loop-low-preserved-then-lt c =
+    let t = tested is_lt _ (λ i. (c.read.ensures i).key) (c.lt.ensures ∙ wide_less c.read.result.key c.widen-wanted.result) in
+    halved_up c.requires.0 (λ i l. (c.type_inv.records i).fits) _ c.loop-low.invariant (sym t ∙ c.if-lt.true) (omega arith)
 
 pub loop-low-preserved : goal.loop-low-preserved
 loop-low-preserved c =
-    let t = tested is_less _ c.wide_at.ensures c.less.ensures in
-    halved_down c.requires.0 (λ i l. (c.type_inv.records i).fits) _ c.loop-low.invariant (sym t ∙ c.if-less.false) (omega arith)
+    let t = tested is_lt _ (λ i. (c.read.ensures i).key) (c.lt.ensures ∙ wide_less c.read.result.key c.widen-wanted.result) in
+    halved_down c.requires.0 (λ i l. (c.type_inv.records i).fits) _ c.loop-low.invariant (sym t ∙ c.if-lt.false) (omega arith)
 
 pub returns-then-low-count : goal.returns-then-low-count
 returns-then-low-count c =
     halved_found c.requires.0 (λ i l. (c.type_inv.records i).fits) _ _ _ c.loop-low.invariant (wanted_given _ _ c.widen-wanted.ensures (array_bytes _ c.well_formed.1.1.0.0 c.well_formed.1.1.0.1.1) c.well_formed.1.1.0.1.0.1 c.requires.1)
-    (tested is_equal _ c.wide_at-then-low-count.ensures c.equal.ensures) (omega arith) (omega arith)
+    (tested is_eq _ (λ i. (c.read-then-low-count.ensures i).key) (c.eq.ensures ∙ wide_equal c.read-then-low-count.result.key c.widen-wanted.result)) (omega arith) (omega arith)
 
-pub returns : goal.returns
-returns c =
-    halved_past _ _ c.loop-low.invariant (wanted_given _ _ c.widen-wanted.ensures (array_bytes _ c.well_formed.1.1.0.0 c.well_formed.1.1.0.1.1) c.well_formed.1.1.0.1.0.1 c.requires.1) (omega arith) (omega arith)
+pub returns-else-low-count : goal.returns-else-low-count
+returns-else-low-count c =
+    rw (le-ltb _ _ c.if-low-count.false)
+    (halved_past _ _ c.loop-low.invariant (wanted_given _ _ c.widen-wanted.ensures (array_bytes _ c.well_formed.1.1.0.0 c.well_formed.1.1.0.1.1) c.well_formed.1.1.0.1.0.1 c.requires.1) (omega arith) (omega arith))

@@ -18,12 +18,9 @@ handed p r l k n q vs f g e =
 
 pub returns : goal.returns
 returns c =
-    let q = c.before.before.before.before.before in
-    let l = q.before in
-    let p = l.before in
-    let a = p.before.before.before.before.args in (
-      l.value_length_at-len.ensures,
-      c.before.before.copy.ensures
-          ∙ ap (λ (x : List ℕ). put 0 x a.buffer.now)
-          (handed _ _ _ _ a.amount _ a.values.now p.place_at-place.ensures l.value_length_at-len.ensures q.smaller-moved.ensures),
+    let r = c.read-record.ensures in (
+      (λ i. (r i).value_length),
+      c.copy.ensures
+          ∙ ap (λ (x : List ℕ). put 0 x c.args.buffer.now)
+          (handed _ _ _ _ c.args.amount _ c.args.values.now (λ i. (r i).place) (λ i. (r i).value_length) c.min-moved.ensures),
     )

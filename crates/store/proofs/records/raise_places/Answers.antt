@@ -1,12 +1,8 @@
-use Rattle.std.proofs.Common.{refl, arith}
 use Rattle.store.proofs.records.raise_places.Invariants.{raise-turn, raise-done}
 use Rattle.store.proofs.records.raise_places.Goals as goal
 
-pub loop-j-init : goal.loop-j-init
-loop-j-init c = (refl, refl)
-
 pub loop-j-preserved : goal.loop-j-preserved
-loop-j-preserved c = (omega arith, search raise-turn)
+loop-j-preserved c = search raise-turn
 
 pub returns : goal.returns
 returns c = search raise-done

@@ -5,13 +5,8 @@ use Rattle.wire.specs.Entry.{read_command}
 use Rattle.wire.proofs.EntryLaws.{key_puts}
 use Rattle.wire.proofs.entries.read_entry.Goals as goal
 
--- w1 and w2: behind the copies that make the key; n: behind nsid
 pub returns : goal.returns
 unfolding part read_command
 returns c =
-    let n = c.before.before.before in
-    let w2 = n.before.before.before.before.before in
-    let w1 = w2.before.before.before.before in
-    let s = w1.before.before.before.before in
-    let k = put_on _ _ w1.copy.ensures w2.copy_at.ensures ∙ key_puts s.args.entry.now s.requires in
-    rw (c.read32-2.ensures, n.read32.ensures, n.before.read16.ensures, k)
+    let k = put_on _ _ c.copy.ensures c.copy_at.ensures ∙ key_puts c.args.entry.now c.told-entry in
+    rw (c.read32-2.ensures, c.read32.ensures, c.read16.ensures, k)

@@ -4,14 +4,9 @@ use Rattle.octets.specs.Octets.{bytes}
 use Rattle.octets.proofs.PartLaws.{puts_joined}
 use Rattle.wire.proofs.entries.write_front.Goals as goal
 
--- w1 to w4: behind each write, the last of them first
 pub returns : goal.returns
 returns c =
-    let w4 = c.before.before in
-    let w3 = w4.before.before.before.before in
-    let w2 = w3.before.before.before.before in
-    let w1 = w2.before.before.before.before in
-    let a = w1.before.before.before.args in
+    let a = c.args in
     let vs = (a.c.fused ∷ []) ∷ bytes 2 a.c.cid ∷ bytes 4 a.c.nsid ∷ [] in
-    rw (w4.write32.ensures, w3.write16.ensures, w2.write8-2.ensures, w1.write8.ensures)
+    rw (c.write32.ensures, c.write16.ensures, c.write8-2.ensures, c.write8.ensures)
     (puts_joined 0 (a.c.opcode ∷ []) vs a.entry.now (omega arith))

@@ -1,2 +1,0 @@
--- The first test that holds.
-mod Rows

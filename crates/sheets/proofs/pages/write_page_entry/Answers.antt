@@ -1,7 +1,0 @@
-use Rattle.sheets.proofs.PageLaws.{entry_words}
-use Rattle.sheets.proofs.pages.write_page_entry.Goals as goal
-
-pub returns : goal.returns
-returns c =
-    entry_words c.args.n c.args.field.now c.requires.0 c.requires.1 c.requires.2 _ c.requires.3
-    _ _ _ _ _ c.write_first.ensures c.write_word.ensures c.write_word-2.ensures c.write_word-3.ensures c.write_last.ensures
