@@ -2,13 +2,18 @@
 use mathlib.Core.Path.{◌≡◌, refl, sym, ap, ap₂, ◌∙◌}
 use Prim.Native.Nat.{ℕ}
 use borrow.Author.Tests.{eqb-false}
-use Rattle.std.specs.Prelude.{Result, Ok, Err, IfOk}
+use Rattle.std.specs.Prelude.{true, cond, eqb, Result, Ok, Err, IfOk}
 use Rattle.refusals.specs.Refusals.{number_of, number_in, code_of, code_in}
 use Rattle.refusals.proofs.Counted.{number_counts, number_one, code_counts, code_one}
 use Rattle.refusals.specs.declared.numbers.Refusal.{Refusal}
 use Rattle.refusals.specs.declared.statuses.Status.{Status}
 use Rattle.maps.specs.declared.describes.Description.{Description}
 use Rattle.maps.specs.Describe.{Described, told}
+use Rattle.octets.proofs.TestLaws.{contrary}
+use Rattle.wire.specs.declared.entries.Opcode.{Opcode}
+use Rattle.wire.specs.declared.entries.Opcode.TheVariants.{Store, Retrieve, List, Delete, Exist}
+use Rattle.wire.specs.declared.entries.UnknownOpcode.{UnknownOpcode}
+use Rattle.wire.specs.Entry.{byte_of, known, Names}
 use Rattle.quick.specs.declared.heads.Span.{Span}
 use Rattle.quick.specs.Heads.{Run, run_in}
 
@@ -52,3 +57,28 @@ told_one (Ok a) (Ok b) e = ap Ok (λ i. record { index = (e i).index; size = (e 
 told_one (Ok a) (Err s) e = absurd (counts s (ap (λ (d : Described). d.number) e))
 told_one (Err r) (Ok b) e = absurd (counts r (sym (ap (λ (d : Described). d.number) e)))
 told_one (Err r) (Err s) e = ap Err (number_one r s (ap (λ (d : Described). d.number) e))
+
+-- the one that has the byte
+abbrev opcode_of : ℕ → Opcode
+opcode_of n = cond (eqb n 0x01) Store (cond (eqb n 0x02) Retrieve (cond (eqb n 0x06) List (cond (eqb n 0x10) Delete Exist)))
+
+opcode_back : (o : Opcode) → opcode_of (byte_of o) ≡ o
+opcode_back Store = refl
+opcode_back Retrieve = refl
+opcode_back List = refl
+opcode_back Delete = refl
+opcode_back Exist = refl
+
+known_byte : (o : Opcode) → known (byte_of o) ≡ true
+known_byte Store = refl
+known_byte Retrieve = refl
+known_byte List = refl
+known_byte Delete = refl
+known_byte Exist = refl
+
+-- by the byte that it stands for
+pub names_one : (n : ℕ) (x y : Result Opcode UnknownOpcode) → Names n x → Names n y → x ≡ y
+names_one n (Ok o) (Ok p) e f = ap Ok (sym (opcode_back o) ∙ ap opcode_of (e ∙ sym f) ∙ opcode_back p)
+names_one n (Ok o) (Err t) e f = absurd (contrary (sym f ∙ sym (ap known e) ∙ known_byte o))
+names_one n (Err s) (Ok p) e f = absurd (contrary (sym e ∙ sym (ap known f) ∙ known_byte p))
+names_one n (Err s) (Err t) e f = refl

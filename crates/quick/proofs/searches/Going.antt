@@ -1,8 +1,8 @@
 -- The search at the loop's head: what is left to look at decides the answer, and with what was looked at makes up the count. Assumes nothing.
-use mathlib.Core.Path.{◌≡◌, refl, ap}
-use mathlib.Core.Bool.{true, false}
-use mathlib.Core.List.{List, []}
-use Prim.Native.Nat.{ℕ, zero, suc, ◌+◌, ◌-◌, ◌*◌, ◌/◌, ◌≤◌, ◌<◌}
+use mathlib.Core.Path.{◌≡◌}
+use mathlib.Core.Bool.{true}
+use mathlib.Core.List.{List}
+use Prim.Native.Nat.{ℕ, suc, ◌+◌, ◌-◌, ◌*◌, ◌/◌, ◌≤◌, ◌<◌}
 use native.Mathlib.Omega.{arith}
 use lib.ListN.{length, drop}
 use Rattle.std.specs.declared.cmp.Ordering.{Ordering}
@@ -24,25 +24,7 @@ pub record Going (o : ℕ → Ordering) (first count low left looked : ℕ) : Ty
   pub known : (search (count - looked) o low left).known ≡ (search count o first count).known
   pub looks : looked + length (search (count - looked) o low left).slots ≡ length (search count o first count).slots
 
-pub going_none : (o : ℕ → Ordering) (first count : ℕ) → Going o first count first count 0
-going_none o first count =
-    let e : count - 0 ≡ count = omega arith in
-    record { inside = omega arith; fuel = omega arith; known = rw e; looks = rw e (omega arith) }
-
 module _ {o : ℕ → Ordering} {first count low left looked : ℕ} (g : Going o first count low left looked) where
-  -- nothing is left
-  pub going_past : left ≤ 0 → record { number = 0; known = 0; looked = looked } ≡ look_of 0 (search count o first count)
-  going_past h =
-      let e : left ≡ 0 = omega arith in
-      let f : search (count - looked) o low 0 ≡ record { slots = []; known = false } = none (count - looked) in
-      let k : false ≡ (search count o first count).known = rw (e, f) at g.known in
-      let l : looked + 0 ≡ length (search count o first count).slots = rw (e, f) at g.looks in
-      rw (← k) (ap (λ n. record { number = 0; known = 0; looked = n }) (omega arith))
-    where
-      none : (n : ℕ) → search n o low 0 ≡ record { slots = []; known = false }
-      none zero = refl
-      none (suc n) = refl
-
   module _ (h : 0 < left) where
     fuel : count - looked ≡ suc (count - (looked + 1))
     fuel = omega (arith, g.fuel)

@@ -1,7 +1,6 @@
 use Prim.Native.Nat.{◌+◌, ◌≤◌}
 use native.Mathlib.Omega.{arith}
-use lib.ListN.{length, length-take}
-use borrow.Author.Rules.{rules}
+use lib.ListN.{length}
 use Rattle.maps.proofs.RoomLaws.{can_weigh}
 use Rattle.changes.proofs.pairs.Pairs.{used_is, used_small, can_replace, replaced_image, can_insert, inserted_image}
 use Rattle.changes.proofs.pairs.put.Goals as goal
@@ -26,9 +25,6 @@ overflow_add-used-2 c =
     let small : c.used_without.result + c.args.f.len + length c.args.value.now ≤ 65536 = used_small c.requires c.used_without.ensures in
     omega (arith, small)
 
-pub slice_bounds-replace-end-then-f-2 : goal.slice_bounds-replace-end-then-f-2
-slice_bounds-replace-end-then-f-2 c = simp length-take (omega arith)
-
 pub replace-requires : goal.replace-requires
 replace-requires c =
     can_replace c.requires c.if-f.true
@@ -38,20 +34,9 @@ returns-then-f c =
     let p = c.requires in
     replaced_image p c.if-f.true (used_is p c.used_without.ensures) c.replace.ensures c.write_counts.ensures
 
-pub slice_bounds-insert-end-3 : goal.slice_bounds-insert-end-3
-slice_bounds-insert-end-3 c = simp length-take (omega arith)
-
 pub insert-requires : goal.insert-requires
 insert-requires c =
     can_insert c.requires c.if-f.false
-
-pub overflow_add-k : goal.overflow_add-k
-overflow_add-k c =
-    omega (arith, can_insert c.requires c.if-f.false)
-
-pub write_counts-requires-2 : goal.write_counts-requires-2
-write_counts-requires-2 c =
-    search (rules, c.requires.legal.head)
 
 pub returns : goal.returns
 returns c =

@@ -8,9 +8,6 @@ use Rattle.maps.proofs.lists.write_list.Goals as goal
 pub loop-j-init : goal.loop-j-init
 loop-j-init c = listed_none c.requires
 
-pub key_len-len-requires : goal.key_len-len-requires
-key_len-len-requires c = (omega arith, c.loop-j.invariant.asked.keys.fit c.loop-j.j (omega arith))
-
 pub invariant_of-field : goal.invariant_of-field
 unfolding part
 invariant_of-field c =
@@ -19,9 +16,6 @@ invariant_of-field c =
       fits = omega arith;
       clear = listed_padded c.loop-j.invariant _ _ c.key_len-len.ensures.0 c.page_entry_size-entry.ensures (omega arith);
     }
-
-pub write_page_entry-requires : goal.write_page_entry-requires
-write_page_entry-requires c = simp (length-take, length-drop) (omega arith)
 
 pub loop-j-preserved : goal.loop-j-preserved
 unfolding part

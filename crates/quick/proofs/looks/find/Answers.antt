@@ -6,7 +6,7 @@ use lib.ListN.{length, drop, length-take, length-drop}
 use Rattle.octets.specs.Octets.{part}
 use Rattle.memory.specs.Memory.{memory}
 use Rattle.quick.proofs.HeadLaws.{run_lies}
-use Rattle.quick.proofs.KnownLaws.{short_key, known_15, known_refused, known_found}
+use Rattle.quick.proofs.KnownLaws.{known_15, known_refused, known_found}
 use Rattle.quick.proofs.looks.find.Goals as goal
 
 pub returns-then-n : goal.returns-then-n
@@ -26,9 +26,6 @@ pub slice_bounds-search-start : goal.slice_bounds-search-start
 slice_bounds-search-start c =
     let lies = run_lies _ _ c.in_ok-span.ensures in
     omega arith
-
-pub widen_key-requires : goal.widen_key-requires
-widen_key-requires c = short_key c.args.key.now c.if-n.false
 
 pub search-requires : goal.search-requires
 search-requires c =

@@ -1,10 +1,7 @@
 use mathlib.Core.Path.{sym, ◌∙◌}
 use borrow.Author.Rules.{rules}
-use Rattle.quick.proofs.searches.Going.{going_none, going_past, going_found, going_down, going_up}
+use Rattle.quick.proofs.searches.Going.{going_found, going_down, going_up}
 use Rattle.quick.proofs.searches.search.Goals as goal
-
-pub loop-left-init : goal.loop-left-init
-loop-left-init c = going_none _ _ _
 
 pub loop-left-preserved-in-Less : goal.loop-left-preserved-in-Less
 loop-left-preserved-in-Less c =
@@ -17,6 +14,3 @@ returns-in-Equal c =
 pub loop-left-preserved : goal.loop-left-preserved
 loop-left-preserved c =
     going_up c.loop-left.invariant c.loop-left-test.true (sym c.beside.ensures ∙ search rules)
-
-pub returns : goal.returns
-returns c = going_past c.loop-left.invariant c.loop-left-test.false

@@ -1,9 +1,6 @@
 use mathlib.Core.Path.{sym, ◌∙◌}
-use native.Mathlib.Omega.{arith}
 use borrow.Author.Rules.{rules}
-use borrow.Author.Tests.{ltb-false}
 use Rattle.octets.specs.Octets.{part}
-use Rattle.octets.proofs.TestLaws.{neither}
 use Rattle.keys.proofs.OrderLaws.{slice_less}
 use Rattle.sheets.proofs.PageLaws.{first_short, first_sized, first_cut, first_unpadded, first_low, first_read}
 use Rattle.sheets.proofs.entries.read_page_entry.Goals as goal
@@ -37,6 +34,3 @@ returns-clause-value c =
     let z = sym c.all_zero.ensures ∙ c.if-not-all_zero.false in
     let b = sym (slice_less c.args.before.now (part 2 _ c.args.rest.now)) ∙ sym c.lt-rising.ensures ∙ c.if-not-rising.false in
     sym (search (rules, first_read))
-
-pub returns-clause-fits : goal.returns-clause-fits
-returns-clause-fits c = (ltb-false 16 _ (neither _ _ c.if-n.false).1, omega arith)

@@ -8,12 +8,6 @@ overflow_sub-self c = omega (arith, insert_bounds c.requires)
 pub insert_value-requires : goal.insert_value-requires
 insert_value-requires c = omega (arith, insert_bounds c.requires)
 
-pub insert_record-requires : goal.insert_record-requires
-insert_record-requires c =
-    let p = c.requires in
-    let b = insert_bounds p in
-    record { slot = p.slot; free = p.free; few = omega (arith, b.0.few); key = p.key; value = omega (arith, p.fits, b.0.small) }
-
 pub returns : goal.returns
 returns c =
     insert_image c.requires c.place-place.ensures c.insert_value.ensures c.insert_record.ensures

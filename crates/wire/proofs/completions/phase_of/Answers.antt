@@ -1,9 +1,0 @@
-use native.Mathlib.Omega.{arith}
-use lib.Bits.{and_mask}
-use Rattle.wire.proofs.completions.phase_of.Goals as goal
-
-pub overflow_cast-result : goal.overflow_cast-result
-overflow_cast-result c = omega (arith, and_mask c.args.w 1)
-
-pub returns : goal.returns
-returns c = and_mask _ 1
