@@ -1,6 +1,7 @@
 #![tactic(auto)]
 // The bench program (docs/MANUAL.md, section 13). What is read and written no contract can say, so that all else stands in functions
-// on slices (`turns.rt`, `texts.rt`, `spans.rt`). A read or a write that fails ends the program with that error.
+// on slices (`turns.rt`, `texts.rt`, `spans.rt`). A read or a write that fails ends the program with that error. Buffers are arrays of fixed
+// lengths, as there is no heap, and go down one by one, as what a struct of `&mut`s holds is told less of.
 mod spans;
 mod texts;
 mod turns;
@@ -19,7 +20,7 @@ fn cut(output: &mut impl Write) -> io::Result<bool> {
     Ok(false)
 }
 
-// Whether the input had a byte for each of the buffer.
+// Whether the input had a byte for each of the buffer: a yes or no and no `Option`, as the caller has the buffer already.
 fn read_whole(input: &mut impl Read, buffer: &mut [u8]) -> io::Result<bool> {
     match input.read_exact(buffer) {
         Ok(()) => Ok(true),
@@ -29,14 +30,14 @@ fn read_whole(input: &mut impl Read, buffer: &mut [u8]) -> io::Result<bool> {
 }
 
 // A Store's data buffer is what follows its entry; that of the others stays zeroed.
-fn fill(input: &mut impl Read, opcode: u8, buffer: &mut [u8]) -> io::Result<bool> {
-    if Opcode::try_from(opcode) != Ok(Opcode::Store) {
+fn fill(input: &mut impl Read, entry: &[u8; 64], buffer: &mut [u8]) -> io::Result<bool> {
+    if !read_entry(entry).is(Opcode::Store) {
         return Ok(true);
     }
     read_whole(input, buffer)
 }
 
-// Whether to go on, here and below.
+// Whether to go on, as in `cut` and in what follows: `ControlFlow` would say no more.
 fn answer(
     input: &mut impl Read,
     output: &mut impl Write,
@@ -48,7 +49,7 @@ fn answer(
 ) -> io::Result<bool>
     requires { length buffer.old ≤ 4096 }
 {
-    if !fill(input, entry[0], buffer)? {
+    if !fill(input, entry, buffer)? {
         return cut(output);
     }
     // a completion's line of 33 bytes, and that of 4096 bytes in hex
@@ -112,7 +113,8 @@ fn run(
     Ok(())
 }
 
-// Format 3 allows 1024 keys: a directory of 64 + 32 x 1024 bytes.
+// Format 3 allows 1024 keys: a directory of 64 + 32 x 1024 bytes. The number that `kv_format` gives is not looked at, as these numbers, with
+// slices of these lengths, are never refused.
 fn main(rt: HostRuntime) -> io::Result<()> {
     let mut directory = [0u8; 32832];
     let mut values = [0u8; 4096];

@@ -1,5 +1,5 @@
 // One entry: its data buffer, the command, and what is printed of it.
-ghost use Rattle.std.specs.Prelude.{◌≡◌, ◌<◌, ◌≤◌, length};
+ghost use Rattle.std.specs.Prelude.{◌≡◌, ◌+◌, ◌*◌, ◌<◌, ◌≤◌, length};
 ghost use Rattle.octets.specs.Octets.{put};
 ghost use Rattle.io.specs.Counts.{IsPrefixLen};
 ghost use Rattle.bench.specs.Turn.{head_after, room_of, gives, given_of, printed, turned, turn_of};
@@ -19,40 +19,39 @@ pub fn head_of(count: u64) -> u16
 }
 
 // What a Store lends is what follows its entry.
+#[tactic(auto, unfolding(crate::specs::Turn::room_of))]
 pub fn room_of(c: Command) -> usize
     ensures value { result ≡ room_of c }
     ensures upper_bound { result ≤ 4096 }
 {
-    if c.is(Opcode::Store) {
-        return c.amount.min(4096) as usize;
+    match Opcode::try_from(c.opcode) {
+        Ok(Opcode::Store) => c.amount.min(4096) as usize,
+        Ok(Opcode::Retrieve | Opcode::List) => 4096,
+        _ => 0,
     }
-    if c.is(Opcode::Retrieve) | c.is(Opcode::List) {
-        return 4096;
-    }
-    0
 }
 
-// Only these print a second line.
+// Only these print a second line. `status` is the completion's byte.
 fn is_giving(c: Command, status: u8) -> bool
     ensures { result ≡ gives c.opcode status }
 {
     (c.is(Opcode::Retrieve) | c.is(Opcode::List)) & (status == 0)
 }
 
+#[tactic(auto, unfolding(crate::specs::Turn::given_of))]
 fn given_of(c: Command, dword0: u32, buffer: &[u8]) -> usize
-    requires { length buffer.now ≤ 4096 }
     ensures value { result ≡ given_of c dword0 buffer.now }
     ensures upper_bound { result ≤ length buffer.now }
 {
     if c.is(Opcode::List) {
         return page_span(buffer);
     }
-    c.amount.min(dword0).min(buffer.len() as u32) as usize
+    (c.amount.min(dword0) as usize).min(buffer.len())
 }
 
+#[tactic(auto, using(crate::proofs::turns::Lines::print_laws))]
 fn print(c: Command, completion: &[u8; 16], buffer: &[u8], text: &mut [u8]) -> usize
-    requires buffer_len_bound { length buffer.now ≤ 4096 }
-    requires text_len { length text.old ≡ 8226 }
+    requires { 34 + 2 * length buffer.now ≤ length text.old }
     ensures text_after { text.new ≡ put 0 (printed c completion.now buffer.now) text.old }
     ensures value { result ≡ length (printed c completion.now buffer.now) }
     ensures prefix_len { IsPrefixLen result text.new }
@@ -67,6 +66,7 @@ fn print(c: Command, completion: &[u8; 16], buffer: &[u8], text: &mut [u8]) -> u
     34 + 2 * n
 }
 
+#[tactic(auto, unfolding(crate::specs::Turn::turn_of))]
 pub fn turn(
     entry: &[u8; 64],
     head: u16,
@@ -75,8 +75,7 @@ pub fn turn(
     values: &mut [u8],
     text: &mut [u8],
 ) -> usize
-    requires buffer_len_bound { length buffer.old ≤ 4096 }
-    requires text_len { length text.old ≡ 8226 }
+    requires { 34 + 2 * length buffer.old ≤ length text.old }
     ensures values_after { turned result text.new buffer.new directory.new values.new
         ≡ turn_of head entry.now text.old buffer.old directory.old values.old }
     ensures prefix_len { IsPrefixLen result text.new }

@@ -13,7 +13,8 @@ use Rattle.store.specs.Maps.{Pair, used}
 use Rattle.store.specs.Namespace.{Namespace, with_pairs}
 use Rattle.store.proofs.NamespaceLaws.{Within as One}
 use Rattle.memory.specs.Namespaces.{joined, total, slots_of, size_of}
-use Rattle.memory.specs.Memory.{memory, needed, needed_values, half_of, label_of, half_for, records_for, values_for, head_of, directory_of, values_of, image_over}
+use Rattle.memory.specs.Memory.{memory, needed, needed_values, half_of, label_of, half_for, records_for, values_for, head_of, directory_of, values_of}
+use Rattle.memory.specs.Memory.{image_over}
 use Rattle.memory.proofs.JoinLaws.{put_mid_law, each_at, each_before, part_joined, put_joined}
 use Rattle.memory.proofs.LimitLaws.{Within, same_total, changed_within}
 use Rattle.memory.proofs.ImageLaws.{length_half, length_halves, length_head, length_records, length_values_part}

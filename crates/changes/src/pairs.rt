@@ -6,6 +6,7 @@ ghost use Rattle.memory.specs.Memory.{memory, image_with};
 ghost use Rattle.maps.specs.Asks.{room_at, CanWeigh, CanPut, CanErase};
 
 use checking::checks::Checked;
+use keys::orders::ShortKey;
 use maps::looks::held_room;
 use memory::labels::write_counts;
 use store::finds::Found;
@@ -20,15 +21,20 @@ fn used_without(directory: &[u8], k: Checked, f: Found) -> u32
 }
 
 // The key that was looked up is given a value, its first or another one.
+#[tactic(auto, using(maps::proofs::RoomLaws::can_weigh, crate::proofs::pairs::Pairs::put_laws))]
 pub fn put(directory: &mut [u8], values: &mut [u8], k: Checked, f: Found, value: &[u8])
     requires { CanPut k f value.now directory.old values.old }
     ensures { memory directory.new values.new
         ≡ image_with k.label.id (insert (found_key f) value.now) (memory directory.old values.old) }
 {
     let stop = k.base + k.label.size as usize;
-    let key = f.key;
-    let len = f.len as usize;
-    let used = used_without(directory, k, f) + (f.len as u32) + (value.len() as u32);
+    let len = usize::from(f.len);
+    // a copy: were the lookup's own key lent, the lookup would lie in memory, which takes every command twelve instructions
+    let sixteen = f.key;
+    let key = ShortKey {
+        bytes: &sixteen[..len],
+    };
+    let used = used_without(directory, k, f) + u32::from(f.len) + (value.len() as u32);
     let spot = Spot {
         id: k.label.id,
         count: k.label.count,
@@ -39,7 +45,7 @@ pub fn put(directory: &mut [u8], values: &mut [u8], k: Checked, f: Found, value:
         spot.replace(
             &mut directory[k.start..k.end],
             &mut values[k.base..stop],
-            &key[..len],
+            key,
             value,
         );
         write_counts(directory, k.half, k.label.count, used);
@@ -48,12 +54,14 @@ pub fn put(directory: &mut [u8], values: &mut [u8], k: Checked, f: Found, value:
     spot.insert(
         &mut directory[k.start..k.end],
         &mut values[k.base..stop],
-        &key[..len],
+        key,
         value,
     );
     write_counts(directory, k.half, k.label.count + 1, used);
 }
 
+// The spot is written out as in `put`: a function for its four fields would want a definition of its own.
+#[tactic(auto, using(maps::proofs::RoomLaws::can_weigh, crate::proofs::pairs::Pairs::can_remove))]
 pub fn erase(directory: &mut [u8], values: &mut [u8], k: Checked, f: Found)
     requires { CanErase k f directory.old values.old }
     ensures { memory directory.new values.new

@@ -7,11 +7,13 @@ use legal::checks::check_part;
 use memory::labels::{HALF, HEAD, read_label};
 use memory::permits::permit;
 use octets::runs::all_zero;
-use octets::words::read32;
+use octets::words::{bytes_at, read32};
 use store::namespaces::Label;
 use table::formats::Format;
 
-// A namespace's numbers, where its half, its records and its values begin, and the sum of the value lengths, so that nothing is found twice.
+// What the pass over memory knows of a namespace: its numbers, where its half, its records and its values begin, where the records end, and the sum
+// of the value lengths. That `start` is not behind `end` is a fact of `CanLook`: as a ghost field it would make each equation of two of these one
+// of proofs too.
 #[derive(Clone, Copy)]
 pub struct Checked {
     pub label: Label,
@@ -35,8 +37,8 @@ fn check_half(
     requires { CanSee half start base directory.now values.now }
     ensures { result ≡ half_checked half start base (memory directory.now values.now) }
 {
-    let label = read_label(&directory[half..half + HALF]);
-    let format = permit(label.index, label.id, label.size as u64).ok()?;
+    let label = read_label(&bytes_at(directory, half));
+    let format = permit(label.index, label.id, u64::from(label.size)).ok()?;
     let end = start + 32 * format.maxkeys as usize;
     let stop = base + label.size as usize;
     if (directory.len() < end) | (values.len() < stop) {
@@ -84,7 +86,7 @@ pub fn check(directory: &[u8], values: &[u8], id: u32) -> Option<Checked>
     let Some(other) = &second else {
         return None;
     };
-    let sizes = one.label.size as u64 + other.label.size as u64;
+    let sizes = one.label.size as usize + other.label.size as usize;
     if (one.label.id == other.label.id) | (65536 < sizes) {
         return None;
     }

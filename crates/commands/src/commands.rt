@@ -27,8 +27,7 @@ fn carry_out(
     ensures { response (code_in result) (result_unwrap_or result 0) buffer.new directory.new values.new
         ≡ respond c buffer.old (memory directory.old values.old) }
 {
-    let key = c.key;
-    let f = look_up(directory, k, key, c.len);
+    let f = look_up(directory, k, c.key, c.len);
     let old = held_room(directory, k, f);
     let u = Stock {
         held: f.held,
@@ -43,6 +42,7 @@ fn carry_out(
 }
 
 // The key is not looked for before steps a to h have let the command pass.
+#[tactic(auto, using(crate::proofs::commands::Seen::refused_illegal))]
 fn respond(
     c: Command,
     buffer: &mut [u8],
@@ -52,6 +52,7 @@ fn respond(
     ensures { response (code_in result) (result_unwrap_or result 0) buffer.new directory.new values.new
         ≡ respond c buffer.old (memory directory.old values.old) }
 {
+    // `?` would copy what was found
     let Some(k) = check(directory, values, c.nsid) else {
         return Err(Status::Internal);
     };
@@ -66,6 +67,7 @@ fn respond(
 }
 
 // A command that is already read.
+#[tactic(auto, unfolding(crate::specs::Command::serve))]
 pub fn step(
     c: Command,
     completion: &mut [u8; 16],
@@ -83,6 +85,7 @@ pub fn step(
 }
 
 // A command from its bytes.
+#[tactic(auto, unfolding(crate::specs::Command::command))]
 pub fn command(
     entry: &[u8],
     completion: &mut [u8],

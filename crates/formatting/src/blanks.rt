@@ -9,6 +9,7 @@ use octets::runs::clear;
 use store::namespaces::Label;
 
 // The two halves of the head, and zeros behind them.
+#[tactic(auto, using(crate::proofs::blanks::Blank::blank_written))]
 pub fn write_blank(
     directory: &mut [u8],
     values: &mut [u8],

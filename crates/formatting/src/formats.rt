@@ -9,15 +9,9 @@ use crate::measures::{Half, measure};
 use refusals::numbers::Refusal;
 use store::namespaces::Label;
 
-const NO_LABEL: Label = Label {
-    id: 0,
-    index: 0,
-    size: 0,
-    count: 0,
-    used: 0,
-};
-
-// One namespace, or two. A half that no namespace has is that of a label of zeros.
+// One namespace, or two: no array of halves, as one of one half and one of two are two types. A half that no namespace has is that of a label of
+// zeros.
+#[tactic(auto, unfolding(crate::specs::Formatting::format, crate::specs::Formatting::format_steps))]
 pub fn format(
     first: Half,
     second: Option<Half>,
@@ -28,10 +22,7 @@ pub fn format(
         ≡ format (halves first second) (memory directory.old values.old) }
 {
     let reach = measure(first, second, directory.len(), values.len())?;
-    let behind = match second {
-        Some(half) => half.label(),
-        None => NO_LABEL,
-    };
+    let behind = second.map_or_else(Label::default, |half| half.label());
     write_blank(directory, values, first.label(), behind, reach);
     Ok(())
 }

@@ -20,7 +20,7 @@ pub struct Half {
 }
 
 impl Half {
-    // With no keys.
+    // With no keys. No `From`, as a size may be too large for one.
     pub fn label(self) -> Label
         requires { self.size ≤ 65536 }
         ensures { result ≡ label_of (fresh self.index self.id self.size) }
@@ -29,8 +29,7 @@ impl Half {
             id: self.id,
             index: self.index,
             size: self.size as u32,
-            count: 0,
-            used: 0,
+            ..Label::default()
         }
     }
 }
@@ -43,6 +42,7 @@ pub struct Reach {
 }
 
 // Of slices with these lengths. The sizes are summed once each of them is known to be small.
+#[tactic(auto, unfolding(crate::specs::Formatting::format_steps))]
 pub fn measure(
     first: Half,
     second: Option<Half>,

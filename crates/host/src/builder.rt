@@ -1,10 +1,10 @@
 // The builder of entries.
-ghost use Rattle.std.specs.Prelude.{◌≡◌, ◌≤◌, length};
+ghost use Rattle.std.specs.Prelude.{◌≡◌};
 ghost use Rattle.refusals.specs.Refusals.{number_in};
 ghost use Rattle.wire.specs.Entry.{byte_of};
 ghost use Rattle.host.specs.Build.{amount_of, options_of, command, built, build};
 
-use keys::orders::pad;
+use keys::orders::ShortKey;
 use refusals::numbers::{Refusal, number};
 use wire::entries;
 use wire::entries::{Command, Opcode};
@@ -23,25 +23,37 @@ fn amount_of(opcode: Opcode, dword10: u32) -> u32
 fn options_of(opcode: Opcode, options: u8) -> u8
     ensures { result ≡ options_of (byte_of opcode) options }
 {
-    if opcode == Opcode::Store { options } else { 0 }
+    match opcode {
+        Opcode::Store => options,
+        Opcode::Retrieve | Opcode::List | Opcode::Delete | Opcode::Exist => 0,
+    }
 }
 
-fn command_of(opcode: Opcode, cid: u16, nsid: u32, key: &[u8], dword10: u32, options: u8) -> Command
-    requires { length key.now ≤ 16 }
-    ensures { result ≡ command (byte_of opcode) cid nsid key.now dword10 options }
+// By what C gives, in its order.
+#[tactic(auto, unfolding(crate::specs::Build::command))]
+fn command_of(
+    opcode: Opcode,
+    cid: u16,
+    nsid: u32,
+    key: ShortKey,
+    dword10: u32,
+    options: u8,
+) -> Command
+    ensures { result ≡ command (byte_of opcode) cid nsid key.entry.bytes.now dword10 options }
 {
     Command {
         opcode: opcode as u8,
         fused: 0,
         cid,
         nsid,
-        key: pad(key),
-        len: key.len() as u8,
+        key: key.pad(),
+        len: key.bytes.len() as u8,
         options: options_of(opcode, options),
         amount: amount_of(opcode, dword10),
     }
 }
 
+#[tactic(auto, unfolding(crate::specs::Build::build))]
 fn build(
     entry: &mut [u8],
     opcode: u8,
@@ -62,11 +74,12 @@ fn build(
     let Ok(opcode) = Opcode::try_from(opcode) else {
         return Err(Refusal::BuildOpcode);
     };
+    let key = ShortKey { bytes: key };
     entries::write_entry(entry, command_of(opcode, cid, nsid, key, dword10, options));
     Ok(())
 }
 
-// Numbers 1, 12, 13.
+// Numbers 1, 12, 13: what C is told.
 pub fn kv_build(
     entry: &mut [u8],
     opcode: u8,

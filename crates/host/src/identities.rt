@@ -1,5 +1,5 @@
 // The reader of Identify pages, of this module and of others.
-ghost use Rattle.std.specs.Prelude.{◌≡◌, length, unwrap_or};
+ghost use Rattle.std.specs.Prelude.{◌≡◌, unwrap_or};
 ghost use Rattle.refusals.specs.Refusals.{number_of};
 ghost use Rattle.sheets.specs.Identify.{formats_in, no_limits, limits_at};
 ghost use Rattle.host.specs.Identity.{unidentified, identity};
@@ -8,7 +8,7 @@ use octets::words;
 use refusals::numbers::Refusal;
 use sheets::identify::{Limits, index_in};
 
-// A house number, what the page says of its namespace, and the limits of one format.
+// For C, which has no `Result`: a house number, what the page says of its namespace, and the limits of one format.
 #[repr(C)]
 #[derive(Clone, Copy, Default)]
 pub struct Identity {
@@ -35,16 +35,14 @@ impl From<Refusal> for Identity {
 }
 
 // Byte 25 counts from 0.
-fn formats_in(page: &[u8]) -> u32
-    requires { length page.now ≡ 4096 }
+fn formats_in(page: &[u8; 4096]) -> u32
     ensures { result ≡ formats_in page.now }
 {
     u32::from(page[25]) + 1
 }
 
 // A page may say more formats than it has room for.
-fn limits_at(page: &[u8], ordinal: u32) -> Option<Limits>
-    requires { length page.now ≡ 4096 }
+fn limits_at(page: &[u8; 4096], ordinal: u32) -> Option<Limits>
     ensures { unwrap_or result no_limits ≡ limits_at page.now ordinal }
 {
     if formats_in(page) <= ordinal {
@@ -60,12 +58,13 @@ fn limits_at(page: &[u8], ordinal: u32) -> Option<Limits>
 }
 
 // Nothing else of the page is checked.
+#[tactic(auto, unfolding(crate::specs::Identity::identity))]
 pub fn kv_read_identify(page: &[u8], ordinal: u32) -> Identity
     ensures { result ≡ identity page.now ordinal }
 {
-    if page.len() != 4096 {
+    let Some(page) = page.as_array::<4096>() else {
         return Identity::from(Refusal::BytesLength);
-    }
+    };
     let limits = limits_at(page, ordinal).unwrap_or_default();
     Identity {
         number: 0,

@@ -1,16 +1,16 @@
 // The reader of List pages.
-ghost use Rattle.std.specs.Prelude.{◌≡◌, ◌≤◌, length};
+ghost use Rattle.std.specs.Prelude.{◌≡◌};
 ghost use Rattle.refusals.specs.Refusals.{number_of};
 ghost use Rattle.sheets.specs.Page.{read_page};
 ghost use Rattle.host.specs.PageKey.{refusal, given, told, page_key};
 
-use keys::orders::pad;
+use keys::orders::ShortKey;
 use octets::words;
 use refusals::numbers::Refusal;
 use sheets::entries::read_page_entry;
 use sheets::pages::page_entry_size;
 
-// A house number, the count of a page's keys, and one of them.
+// For C, which has no `Result`: a house number, the count of a page's keys, and one of them.
 #[repr(C)]
 #[derive(Clone, Copy, Default)]
 pub struct PageKey {
@@ -32,19 +32,19 @@ impl From<Refusal> for PageKey {
     }
 }
 
-fn page_key(count: u32, key: &[u8]) -> PageKey
-    requires { length key.now ≤ 16 }
-    ensures { result ≡ given count key.now }
+// C's struct at once, since one between them would have the same fields.
+fn page_key(count: u32, key: ShortKey) -> PageKey
+    ensures { result ≡ given count key.entry.bytes.now }
 {
     PageKey {
         number: 0,
         count,
-        len: key.len() as u32,
-        key: pad(key),
+        len: key.bytes.len() as u32,
+        key: key.pad(),
     }
 }
 
-// A key is given of a page that is right to its end.
+// A key is given of a page that is right to its end. The entries differ in length, so that each is cut off by its own.
 fn find_key(page: &[u8], ordinal: u32) -> Result<PageKey, Refusal>
     ensures { told result ≡ page_key (read_page page.now) ordinal }
 {
@@ -53,7 +53,7 @@ fn find_key(page: &[u8], ordinal: u32) -> Result<PageKey, Refusal>
     }
     let count = words::read32(page, 0);
     let mut rest = &page[4..];
-    // the key read last and the key asked for: empty while there is none
+    // the key read last and the key asked for: empty while there is none, as C is told the empty key past the last one
     let mut last = &page[..0];
     let mut asked = &page[..0];
     for i in 0..count {
@@ -64,7 +64,7 @@ fn find_key(page: &[u8], ordinal: u32) -> Result<PageKey, Refusal>
             asked = last;
         }
     }
-    Ok(page_key(count, asked))
+    Ok(page_key(count, ShortKey { bytes: asked }))
 }
 
 pub fn kv_read_page(page: &[u8], ordinal: u32) -> PageKey

@@ -1,12 +1,12 @@
 // The reader of completions.
 ghost use Rattle.std.specs.Prelude.{◌≡◌};
 ghost use Rattle.refusals.specs.Refusals.{number_of};
-ghost use Rattle.host.specs.Reply.{unread, reply};
+ghost use Rattle.host.specs.Reply.{numbered, unread, reply};
 
 use refusals::numbers::Refusal;
-use wire::completions;
+use wire::completions::{Completion, read_completion};
 
-// A house number and the completion's fields; kind is the status code type, `type` being a word of the language.
+// For C, which has no `Result`: a house number and the completion's fields; kind is the status code type, `type` being a word of the language.
 #[repr(C)]
 #[derive(Clone, Copy, Default)]
 pub struct Reply {
@@ -32,21 +32,29 @@ impl From<Refusal> for Reply {
     }
 }
 
+impl From<Completion> for Reply {
+    ghost from_gives = { λ c a. a ≡ numbered 0 c };
+
+    fn from(c: Completion) -> Reply {
+        Reply {
+            number: 0,
+            dword0: c.dword0,
+            head: c.head,
+            queue: c.queue,
+            cid: c.cid,
+            phase: c.phase,
+            status: c.status,
+            kind: c.kind,
+        }
+    }
+}
+
+#[tactic(auto, unfolding(crate::specs::Reply::reply))]
 pub fn kv_read_completion(completion: &[u8]) -> Reply
     ensures { result ≡ reply completion.now }
 {
     let Some(completion) = completion.as_array::<16>() else {
         return Reply::from(Refusal::CompletionLength);
     };
-    let c = completions::read_completion(completion);
-    Reply {
-        number: 0,
-        dword0: c.dword0,
-        head: c.head,
-        queue: c.queue,
-        cid: c.cid,
-        phase: c.phase,
-        status: c.status,
-        kind: c.kind,
-    }
+    Reply::from(read_completion(completion))
 }

@@ -22,9 +22,9 @@ pub fn create(
     ensures { formatted (number_in result) (memory directory.new values.new)
         ≡ create fields.now id (memory directory.old values.old) }
 {
-    if fields.len() != 512 {
+    let Some(fields) = fields.as_array::<512>() else {
         return Err(Refusal::BytesLength);
-    }
+    };
     let half = Half {
         index: index_in(fields[31]),
         id,

@@ -4,11 +4,11 @@ ghost use Rattle.octets.specs.Octets.{part, filled, all_zero};
 ghost use Rattle.keys.specs.Keys.{wide_of, clear_wide};
 
 use crate::wide::read_big;
-use octets::runs::copy;
+use octets::runs::copy_at;
 
 // A key that stands in sixteen bytes with zeros behind it, as two numbers with the highest byte first, and its length. Such keys
 // stand in the order of their numbers (`widened_order`), so that they are compared with no loop.
-#[derive(Clone, Copy, PartialEq, Eq, PartialOrd, Ord)]
+#[derive(Clone, Copy, Default, PartialEq, Eq, PartialOrd, Ord)]
 pub struct Wide {
     pub high: u64,
     pub low: u64,
@@ -45,19 +45,27 @@ pub fn widen(s: &[u8], at: usize, len: u64) -> Wide
     }
 }
 
-// The sixteen bytes that an entry and a page key have for a key.
-pub fn pad(key: &[u8]) -> [u8; 16]
-    requires { length key.now ≤ 16 }
-    ensures { result ≡ filled 16 key.now }
-{
-    let mut padded = [0u8; 16];
-    copy(key, &mut padded);
-    padded
+// A key in a lent slice, of sixteen bytes at most.
+#[derive(Clone, Copy)]
+pub struct ShortKey<'a> {
+    pub bytes: &'a [u8],
+    pub ghost short: { length bytes.now ≤ 16 },
+}
+
+impl ShortKey<'_> {
+    // The sixteen bytes that an entry and a page key have for it.
+    pub fn pad(self) -> [u8; 16]
+        ensures { result ≡ filled 16 self.entry.bytes.now }
+    {
+        let mut padded = [0u8; 16];
+        copy_at(self.bytes, &mut padded, 0);
+        padded
+    }
 }
 
 // Whether zeros stand behind the first `len` of the sixteen bytes; a length above 16 leaves none of them behind it.
 pub fn ends_clear(key: [u8; 16], len: u8) -> bool
     ensures { result ≡ all_zero (drop len key) }
 {
-    widen(&key, 0, len as u64).is_clear()
+    widen(&key, 0, u64::from(len)).is_clear()
 }

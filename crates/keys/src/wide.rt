@@ -3,19 +3,12 @@ ghost use Rattle.std.specs.Prelude.{◌≡◌, ◌+◌, ◌≤◌, length};
 ghost use Rattle.octets.specs.Octets.{part};
 ghost use Rattle.keys.specs.Keys.{big};
 
+use octets::words::bytes_at;
+
 // The highest byte first: such numbers stand in the order of the bytes.
 pub fn read_big(s: &[u8], at: usize) -> u64
     requires { at + 8 ≤ length s.now }
     ensures { result ≡ big (part at 8 s.now) }
 {
-    u64::from_be_bytes([
-        s[at],
-        s[at + 1],
-        s[at + 2],
-        s[at + 3],
-        s[at + 4],
-        s[at + 5],
-        s[at + 6],
-        s[at + 7],
-    ])
+    u64::from_be_bytes(bytes_at(s, at))
 }

@@ -20,7 +20,7 @@ fn slot_ok(r: Record, before: Wide, total: u32, id: u32, f: Format) -> bool
     ensures { result ≡ all (slot_tests id f total before r) }
 {
     let sized = (1 <= r.key_length)
-        & (r.key_length <= (f.keymax as u32))
+        & (r.key_length <= u32::from(f.keymax))
         & (r.value_length <= f.valuemax);
     if !(sized & (r.place == total) & (r.owner == id)) {
         return false;
@@ -28,17 +28,14 @@ fn slot_ok(r: Record, before: Wide, total: u32, id: u32, f: Format) -> bool
     before < r.key && r.key.is_clear()
 }
 
-// The key before the first record is the empty one, which is below every other.
+// The key before the first record is the empty one, which is below every other. Slot by slot, as `pass_over` takes them: chunks of 32 bytes would
+// still be read by `Record::read`.
 #[tactic(auto, using(crate::proofs::checks::Turns::slot_refused, crate::proofs::checks::Turns::over_done))]
 fn check_records(records: &[u8], id: u32, count: u32, f: Format) -> Option<Sums>
     requires { Readable count f records.now }
     ensures { result ≡ pass_over count id f 0 0 first_wide records.now }
 {
-    let mut before = Wide {
-        high: 0,
-        low: 0,
-        len: 0,
-    };
+    let mut before = Wide::default();
     let mut total: u32 = 0;
     let mut keys: u32 = 0;
     for j in 0..count {
@@ -56,7 +53,8 @@ fn check_records(records: &[u8], id: u32, count: u32, f: Format) -> Option<Sums>
     })
 }
 
-// The two parts of a namespace under its own format.
+// The two parts of a namespace under its own format, which the permit before has found, so
+// that it is not looked up again.
 #[tactic(auto, using(crate::proofs::checks::Answers::part_laws), unfolding(octets::specs::Octets::part))]
 pub fn check_part(records: &[u8], values: &[u8], n: Label, f: Format) -> Option<Sums>
     requires { Checkable n f records.now values.now }

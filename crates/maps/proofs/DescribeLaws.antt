@@ -58,6 +58,8 @@ module _ (id : ℕ) (d v : List ℕ) {o : Option Checked} (eo : o ≡ checked id
         let there : held k.label.id ss ≡ true = sym (at_id k.label.id ss) ∙ eq-eqb k.label.id (at k.label.id ss).id i in
         rw (g.legal, ← n, there) (ap of_label (label_is g))
 
+pub ruleset told_laws = (illegal_told, unnamed_told, legal_told)
+
 pub describe_held : {ss : List Namespace} {m : Memory} (id : ℕ) → Holds ss m → describe id m ≡ cond (held id ss) (described (at id ss)) (undescribed 23)
 unfolding describe
 describe_held id h = rw (holds_legal h) (ap (λ (ts : List Namespace). cond (held id ts) (described (at id ts)) (undescribed 23)) (holds_back h))

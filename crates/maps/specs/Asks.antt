@@ -11,7 +11,7 @@ use Rattle.memory.specs.Namespaces.{at}
 use Rattle.memory.specs.Memory.{memory, namespaces_of, pairs_at, legal}
 use Rattle.checking.specs.Checks.{numbers_after}
 
--- f is where its key stands among ks
+-- f is where its key stands among ks. `found` makes one of any length, and the laws know no arrays, so that both lengths are said here
 pub record Looked (f : Found) (ks : List Key) : Type 0 where
   pub held : f.held ≡ has_key (found_key f) ks
   pub slot : f.slot ≡ rank (found_key f) ks

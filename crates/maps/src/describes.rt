@@ -6,6 +6,7 @@ ghost use Rattle.maps.specs.Describe.{told, describe};
 use checking::checks::check;
 use refusals::numbers::Refusal;
 
+// No `Label`: `told` says nothing of an id, which the caller has. Made in one place alone, and so by no `From`.
 #[derive(Clone, Copy)]
 pub struct Description {
     pub index: u32,
@@ -15,6 +16,7 @@ pub struct Description {
 }
 
 // Numbers 18 and 23. Where no namespace has the id, the check gives the first one's numbers.
+#[tactic(auto, using(crate::proofs::DescribeLaws::told_laws))]
 pub fn describe(id: u32, directory: &[u8], values: &[u8]) -> Result<Description, Refusal>
     ensures { told result ≡ describe id (memory directory.now values.now) }
 {

@@ -18,7 +18,8 @@ fn key_len(records: &[u8], slot: u32) -> usize
     Record::read(records, slot).key_length as usize
 }
 
-// The page of the keys from a slot on: up to the first entry that has no room left, and nothing is written behind it.
+// The page of the keys from a slot on: up to the first entry that has no room left, and nothing is written behind it. By slots, as their
+// difference is the page's count; an entry is lent what remains of the buffer (document 01).
 pub fn write_list(records: &[u8], count: u32, slot: u32, buffer: &mut [u8], size: u32)
     requires { Listing count slot size records.now buffer.old }
     ensures { buffer.new ≡ put 0 (page (fits (size - 4) (drop slot (keys_in count records.now)))) buffer.old }

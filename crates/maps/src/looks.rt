@@ -1,4 +1,6 @@
 // The map read: a key looked up, its pair's room, a value handed over, keys listed.
+// No type joins `directory, k`, as `directory` is lent for reading here and for writing in `changes`; nor `k, f`, which would spare one argument
+// and have each clause take it apart. Amounts and sizes stand beside the buffer, as the clauses speak of the whole of it.
 ghost use Rattle.std.specs.Prelude.{◌≡◌, ◌+◌, length, take};
 ghost use Rattle.octets.specs.Octets.{put};
 ghost use Rattle.keys.specs.Keys.{Padded};
@@ -25,10 +27,10 @@ pub fn look_up(directory: &[u8], k: Checked, key: [u8; 16], len: u8) -> Found
 fn pair_room(len: u8, value: u32) -> u64
     ensures { result ≡ len + value }
 {
-    len as u64 + value as u64
+    u64::from(len) + u64::from(value)
 }
 
-// The room of the pair that the key looked up holds, none where it is absent.
+// The room of the pair that the key looked up holds, 0 where it is absent, as `room_at` and step j reckon with it.
 pub fn held_room(directory: &[u8], k: Checked, f: Found) -> u64
     requires { CanWeigh k f directory.now }
     ensures { result ≡ room_at k f directory.now }

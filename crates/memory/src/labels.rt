@@ -12,8 +12,8 @@ pub const HALF: usize = 32;
 
 pub const HEAD: usize = 64;
 
-pub fn read_label(half: &[u8]) -> Label
-    requires { length half.now ≡ 32 }
+// No `From`: `Label` is a type of `store`, which knows no head.
+pub fn read_label(half: &[u8; HALF]) -> Label
     ensures { result ≡ label_in half.now }
 {
     Label {
@@ -25,6 +25,7 @@ pub fn read_label(half: &[u8]) -> Label
     }
 }
 
+// A slice: what is written to an array of it would come back through an `Option`, of a length that the caller's range says already.
 pub fn write_label(half: &mut [u8], label: Label)
     requires { length half.old ≡ 32 }
     ensures { half.new ≡ half_of label }
@@ -37,7 +38,7 @@ pub fn write_label(half: &mut [u8], label: Label)
     clear(half, 20, 12);
 }
 
-// Of the numbers in the half at an index these are the two that a command changes.
+// Of the numbers in a half these are the two that a command changes. At an index, as the caller has the whole directory.
 pub fn write_counts(directory: &mut [u8], half: usize, count: u32, used: u32)
     requires { half + 32 ≤ length directory.old }
     ensures { directory.new ≡ put (half + 12) (bytes 4 count ++ bytes 4 used) directory.old }

@@ -1,5 +1,6 @@
 #![tactic(auto)]
-// The device's calls, in the order of `include/kv.h`; `module_c` exports them to C.
+// The device's calls, in the order of `include/kv.h`; `module_c` exports them to C, so that each takes what C gives and answers
+// with a number or one of C's structs.
 ghost use Rattle.std.specs.Prelude.{◌≡◌, [], ◌∷◌};
 ghost use Rattle.memory.specs.Memory.{memory};
 ghost use Rattle.formatting.specs.Formatting.{half, formatted, format};

@@ -52,12 +52,6 @@ true_all [] a = refl
 true_all (b ∷ bs) a = rw (and_all b bs, a.0) (true_all bs a.1)
 
 -- a test that fails decides, and one that holds leaves it to those behind it
-pub and_fails : (b : Bool) (bs : List Bool) → b ≡ false → false ≡ and b bs
-and_fails b bs e = rw (and_all b bs, e)
-
-pub and_holds : (b : Bool) (bs : List Bool) → b ≡ true → all bs ≡ and b bs
-and_holds b bs e = rw (and_all b bs, e)
-
 -- ---- none holds
 
 abbrev pub None : List Row → Type 0

@@ -2,13 +2,6 @@
 ghost use Rattle.std.specs.Prelude.{◌≡◌, ◌+◌, ◌≤◌, length, replicate};
 ghost use Rattle.octets.specs.Octets.{part, put, all_zero};
 
-pub fn copy(src: &[u8], dst: &mut [u8])
-    requires { length src.now ≤ length dst.old }
-    ensures { dst.new ≡ put 0 src.now dst.old }
-{
-    dst[..src.len()].copy_from_slice(src);
-}
-
 pub fn copy_at(src: &[u8], dst: &mut [u8], at: usize)
     requires { at + length src.now ≤ length dst.old }
     ensures { dst.new ≡ put at src.now dst.old }
@@ -39,7 +32,7 @@ fn zero_run(s: &[u8]) -> bool
     s.iter().fold(0u8, |seen, b| seen | b) == 0
 }
 
-// In blocks whose length the compiler knows: it writes their loop out, with no test in between.
+// In blocks whose length the compiler knows: it writes their loop out, with no test in between; what that saves is in docs/SPEED.md.
 pub fn all_zero(s: &[u8]) -> bool
     ensures { result ≡ all_zero s.now }
 {

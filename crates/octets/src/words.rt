@@ -1,5 +1,5 @@
-// Little-endian words of 1, 2 and 4 bytes, read and written at an index; words of 8 are only read. Each width has a function of its
-// own: the library has `from_le_bytes` and `to_le_bytes` at each integer type, and in no trait that they could share.
+// Little-endian words at an index: of 2 and 4 bytes, read and written; of 8, read; of 1, written. Each width has a function of its own: std has
+// `from_le_bytes` and `to_le_bytes` at each integer type, and in no trait that they could share.
 ghost use Rattle.std.specs.Prelude.{◌≡◌, [], ◌∷◌, ◌+◌, ◌≤◌, ◌<◌, length};
 ghost use Rattle.octets.specs.Octets.{part, put, number, bytes};
 
@@ -7,7 +7,7 @@ use crate::runs::copy_at;
 
 // As many bytes as the caller's word has.
 #[tactic(auto, unfolding(crate::specs::Octets::part))]
-fn bytes_at<const N: usize>(s: &[u8], at: usize) -> [u8; N]
+pub fn bytes_at<const N: usize>(s: &[u8], at: usize) -> [u8; N]
     requires { at + N ≤ length s.now }
     ensures { result ≡ part at N s.now }
 {

@@ -2,7 +2,7 @@
 use mathlib.Core.Path.{◌≡◌, refl, sym, ap, ap₂, ◌∙◌}
 use Prim.Native.Nat.{ℕ}
 use borrow.Author.Tests.{eqb-false}
-use Rattle.std.specs.Prelude.{true, cond, eqb, Result, Ok, Err, IfOk}
+use Rattle.std.specs.Prelude.{cond, eqb, Result, Ok, Err, IfOk}
 use Rattle.refusals.specs.Refusals.{number_of, number_in, code_of, code_in}
 use Rattle.refusals.proofs.Counted.{number_counts, number_one, code_counts, code_one}
 use Rattle.refusals.specs.declared.numbers.Refusal.{Refusal}
@@ -14,6 +14,7 @@ use Rattle.wire.specs.declared.entries.Opcode.{Opcode}
 use Rattle.wire.specs.declared.entries.Opcode.TheVariants.{Store, Retrieve, List, Delete, Exist}
 use Rattle.wire.specs.declared.entries.UnknownOpcode.{UnknownOpcode}
 use Rattle.wire.specs.Entry.{byte_of, known, Names}
+use Rattle.wire.proofs.EntryLaws.{known_byte}
 use Rattle.quick.specs.declared.heads.Span.{Span}
 use Rattle.quick.specs.Heads.{Run, run_in}
 
@@ -68,13 +69,6 @@ opcode_back Retrieve = refl
 opcode_back List = refl
 opcode_back Delete = refl
 opcode_back Exist = refl
-
-known_byte : (o : Opcode) → known (byte_of o) ≡ true
-known_byte Store = refl
-known_byte Retrieve = refl
-known_byte List = refl
-known_byte Delete = refl
-known_byte Exist = refl
 
 -- by the byte that it stands for
 pub names_one : (n : ℕ) (x y : Result Opcode UnknownOpcode) → Names n x → Names n y → x ≡ y

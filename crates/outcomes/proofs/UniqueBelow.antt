@@ -61,7 +61,7 @@ read_big_one κs a x y u v p q = value p q
 pub widen_one : Determines orders.widen.Kinds.ps orders.widen.Kinds.r orders.widen.Reads.Learnt
 widen_one κs a x y u v p q = value p q
 
-pub pad_one : Determines orders.pad.Kinds.ps orders.pad.Kinds.r orders.pad.Reads.Learnt
+pub pad_one : Determines orders.ShortKey.pad.Kinds.ps orders.ShortKey.pad.Kinds.r orders.ShortKey.pad.Reads.Learnt
 pad_one κs a x y u v p q = value p q
 
 pub is_clear_one : Determines orders.Wide.is_clear.Kinds.ps orders.Wide.is_clear.Kinds.r orders.Wide.is_clear.Reads.Learnt
@@ -71,9 +71,6 @@ pub ends_clear_one : Determines orders.ends_clear.Kinds.ps orders.ends_clear.Kin
 ends_clear_one κs a x y u v p q = value p q
 
 -- ---- octets::runs
-
-pub copy_one : Determines runs.copy.Kinds.ps runs.copy.Kinds.r runs.copy.Reads.Learnt
-copy_one κs a x y u v p q = slice p q (λ s. (tt, (s, tt)))
 
 pub copy_at_one : Determines runs.copy_at.Kinds.ps runs.copy_at.Kinds.r runs.copy_at.Reads.Learnt
 copy_at_one κs a x y u v p q = slice p q (λ s. (tt, (s, (tt, tt))))

@@ -132,7 +132,15 @@ reply_agrees p c l w i =
     let d = respond_dword0 c l.buffer l.memory in
     let t = respond_status c l.buffer l.memory in
     reply_back (posted p c.cid r)
-    (record { dword0_in = omega arith; head_in = w.head_in; queue_in = w.queue_in; cid_in = i; phase_in_law = omega arith; status_in_law = t; kind_in_law = omega arith })
+    (record {
+      dword0_in = omega arith;
+      head_in = w.head_in;
+      queue_in = w.queue_in;
+      cid_in = i;
+      phase_in_law = omega arith;
+      status_in_law = t;
+      kind_in_law = omega arith;
+    })
 
 -- from the host to the module and back: the entry built, the command carried out, the completion read
 pub call_agrees : (e : List ℕ) (a : Ask) (p : Post) (l : Lent) → length e ≡ 64 → length l.completion ≡ 16 → Askable a → Postable p

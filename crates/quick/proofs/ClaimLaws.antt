@@ -1,10 +1,10 @@
 -- What the halves ask for, and the run by that. Assumes nothing.
 use mathlib.Core.Path.{◌≡◌, sym, ◌∙◌}
 use mathlib.Core.Bool.{true, false, ◌||◌}
-use Prim.Native.Nat.{ℕ, ◌+◌, ◌*◌, ◌≤◌}
+use Prim.Native.Nat.{ℕ, ◌+◌, ◌*◌, ◌≤◌, ◌<◌}
 use native.Mathlib.Omega.{arith}
 use lib.Dec.{ltb, eqb}
-use borrow.Author.Tests.{eqb-true, le-leb, leb-true, le-ltb, ltb-false}
+use borrow.Author.Tests.{eqb-true, le-leb, lt-leb, leb-true, le-ltb, ltb-false}
 use Rattle.std.specs.Prelude.{Ok, Err}
 use Rattle.refusals.specs.declared.numbers.Refusal.{Refusal}
 use Rattle.refusals.specs.declared.numbers.Refusal.TheVariants.{SliceLength}
@@ -72,6 +72,10 @@ module _ (id : ℕ) (h t : Label) (d v : ℕ) where
   unfolding run_by
   run_6 n = rw (refuted (all (need_tests h t d v)) (λ e. n (all_true (need_tests h t d v) e)))
 
+  pub short_head : d < 64 → no_run 6 ≡ run_by id h t d v
+  unfolding run_by
+  short_head l = rw (lt-leb 64 d l)
+
   -- slices as long as the halves ask for
   pub run_by_law : sound h ≡ true → sound t ≡ true → 64 + 32 * (slots_by h + slots_by t) ≤ d → size_by h + size_by t ≤ v → run_by id h t d v ≡ chosen id h t
   unfolding run_by
@@ -104,3 +108,5 @@ module _ (id : ℕ) (h t : Label) (d v : ℕ) where
         let y = ltb-false v _ n.1 in
         sym (run_by_law id h t d v claims.0.sound claims.1.sound (rw (claims.0.slots, claims.1.slots) at x)
         (rw (claims.0.size, claims.1.size) at y))
+
+pub ruleset run_laws = (claimed, short_head, first_6, second_6, short_6, chosen_run)

@@ -9,7 +9,6 @@ use native.Mathlib.Omega.{arith}
 use lib.Dec.{eqb}
 use lib.ListN.{length}
 use borrow.Author.Tests.{eqb-true, eqb-false, ne_eqb, le-leb, leb-true}
-use Rattle.std.specs.Prelude.{Ok}
 use Rattle.octets.specs.Octets.{part, number}
 use Rattle.octets.specs.Tests.{all}
 use Rattle.octets.proofs.TestLaws.{known, holds, fails, neither, All, all_true, true_all}
@@ -21,8 +20,7 @@ use Rattle.memory.specs.Namespaces.{total, slots_of, held}
 use Rattle.memory.specs.Memory.{Memory, memory, label_of, label_in, label_at, half_of, head_of, directory_of}
 use Rattle.memory.proofs.ImageLaws.{Holds, directory_split}
 use Rattle.memory.proofs.PlaceLaws.{label_held, directory_long, values_long_enough}
-use Rattle.quick.specs.declared.heads.Span.{Span}
-use Rattle.quick.specs.Heads.{Run, run_in, slots_by, size_by, sound_tests, sound, need_tests, no_run, run_from, chosen, run_by, run_of}
+use Rattle.quick.specs.Heads.{Run, slots_by, size_by, sound_tests, sound, need_tests, no_run, run_from, chosen, run_by, run_of}
 use Rattle.quick.proofs.ClaimLaws.{sound_is, run_by_law}
 
 -- ---- the run that is chosen
@@ -86,13 +84,13 @@ module _ (id : ℕ) (m : Memory) where
   unfolding run_of
   run_inside = inside id (label_at 0 m.directory) (label_at 32 m.directory) (length m.directory) (length m.values)
 
-  -- what the search asks for
-  pub run_lies : {s : Span} → run_in (Ok s) ≡ run_of id m → (s.first + s.count ≤ 2048) × (64 + 32 * (s.first + s.count) ≤ length m.directory)
-  run_lies q =
-      let i = run_inside (sym (ap (λ (y : Run). y.number) q)) in
-      let f = ap (λ (y : Run). y.first) q in
-      let c = ap (λ (y : Run). y.count) q in
-      (omega (arith, i.slots, i.few), omega (arith, i.slots, i.lies))
+-- what the search asks for
+pub run_lies : (id : ℕ) (d v : List ℕ) → (run_of id (memory d v)).number ≡ 0
+    → ((run_of id (memory d v)).first + (run_of id (memory d v)).count ≤ 2048)
+    × (64 + 32 * ((run_of id (memory d v)).first + (run_of id (memory d v)).count) ≤ length d)
+run_lies id d v q =
+    let i = run_inside id (memory d v) q in
+    (omega (arith, i.slots, i.few), omega (arith, i.slots, i.lies))
 
 -- ---- on an image
 

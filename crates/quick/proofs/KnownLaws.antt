@@ -9,9 +9,7 @@ use native.Mathlib.Omega.{arith}
 use lib.Dec.{ltb, eqb}
 use lib.ListN.{length, drop, get_or}
 use borrow.Author.Tests.{eq-eqb, ltb-false}
-use Rattle.std.specs.Prelude.{Ok, Err}
-use Rattle.refusals.specs.declared.numbers.Refusal.{Refusal}
-use Rattle.refusals.specs.Refusals.{number_of}
+use Rattle.std.specs.Prelude.{Ok}
 use Rattle.octets.specs.Octets.{part, number, filled}
 use Rattle.octets.proofs.TestLaws.{known as split, holds, fails, neither}
 use Rattle.octets.proofs.PartLaws.{length_part, part_drop, part_inside}
@@ -35,7 +33,7 @@ use Rattle.memory.proofs.PlaceLaws.{within_held, part_held}
 use Rattle.quick.specs.declared.looks.Look.{Look}
 use Rattle.quick.specs.Search.{Search, search, search_keys}
 use Rattle.quick.specs.declared.heads.Span.{Span}
-use Rattle.quick.specs.Heads.{run_in, no_run, run_from, run_of}
+use Rattle.quick.specs.Heads.{Run, run_in, no_run, run_from, run_of}
 use Rattle.quick.specs.Known.{record_at, compare, no_key, run_for, look_of, known, no_look, known_in}
 use Rattle.quick.proofs.SearchLaws.{Alike, search_alike}
 use Rattle.quick.proofs.HeadLaws.{run_lies, run_among, run_there, run_none, run_held}
@@ -79,7 +77,7 @@ pub short_key : (k : Key) → no_key k ≡ false → length k ≤ 16
 short_key k e = ltb-false 16 (length k) (neither (eqb (length k) 0) (ltb 16 (length k)) e).1
 
 module _ (k : Key) (id : ℕ) (m : Memory) where
-  pub known_15 : no_key k ≡ true → no_look 15 ≡ known k id m
+  known_15 : no_key k ≡ true → no_look 15 ≡ known k id m
   unfolding known run_for
   known_15 e = rw e
 
@@ -87,22 +85,19 @@ module _ (k : Key) (id : ℕ) (m : Memory) where
   unfolding known run_for
   known_none e n f = rw (e, f)
 
-  module _ (e : no_key k ≡ false) where
-    pub known_refused : (r : Refusal) → run_in (Err r) ≡ run_of id m → no_look (number_of r) ≡ known k id m
-    known_refused r q = sym (known_none e (number_of r) (sym q))
+  module _ (e : no_key k ≡ false) {s : Span} (q : run_in (Ok s) ≡ run_of id m) where
+    known_looked : (o : ℕ → Ordering) → ((j : ℕ) → j < s.count → o (s.first + j) ≡ compare k (record_at (s.first + j) m.directory))
+        → look_of 0 (search s.count o s.first s.count) ≡ known k id m
+    unfolding known run_for
+    known_looked o h = rw (e, ← q) (alike_look 0 (search_alike s.count o _ s.first s.first s.count h))
 
-    module _ {s : Span} (q : run_in (Ok s) ≡ run_of id m) where
-      known_looked : (o : ℕ → Ordering) → ((j : ℕ) → j < s.count → o (s.first + j) ≡ compare k (record_at (s.first + j) m.directory))
-          → look_of 0 (search s.count o s.first s.count) ≡ known k id m
-      unfolding known run_for
-      known_looked o h = rw (e, ← q) (alike_look 0 (search_alike s.count o _ s.first s.first s.count h))
-
-      -- the search that code has made
-      pub known_found : {w : Wide} → w ≡ wide_of (filled 16 k) (length k) → Bytes k → Bytes m.directory
-          → look_of 0 (search s.count (λ j. order_wide w (wide_in (drop (32 * j) (behind m.directory)))) s.first s.count) ≡ known k id m
-      known_found {w} c bk bd =
-          let l = short_key k e in
-          known_looked _ (λ j h. rw c (compared_at k m.directory (bytes_filled 16 k bk) bd l (s.first + j) (omega (arith, (run_lies id m q).1))))
+    -- the search that code has made
+    pub known_found : {w : Wide} → w ≡ wide_of (filled 16 k) (length k) → Bytes k → Bytes m.directory
+        → look_of 0 (search s.count (λ j. order_wide w (wide_in (drop (32 * j) (behind m.directory)))) s.first s.count) ≡ known k id m
+    known_found {w} c bk bd =
+        let l = short_key k e in
+        let lies = rw (← q) at (run_lies id m.directory m.values (sym (ap (λ (r : Run). r.number) q))).1 in
+        known_looked _ (λ j h. rw c (compared_at k m.directory (bytes_filled 16 k bk) bd l (s.first + j) (omega (arith, lies))))
 
   known_run : no_key k ≡ false → (first n : ℕ) → run_of id m ≡ record { number = 0; first = first; count = n }
       → known k id m ≡ look_of 0 (search n (λ j. compare k (record_at j m.directory)) first n)

@@ -1,13 +1,13 @@
 -- A key as two numbers, by its first and its last eight bytes. Assumes nothing.
 use mathlib.Core.Path.{◌≡◌, sym, ap, ◌∙◌}
 use mathlib.Core.List.{List, ◌++◌}
-use Prim.Native.Nat.{ℕ, ◌+◌, ◌-◌, ◌*◌, ◌%◌, ◌^◌, ◌≤◌}
+use Prim.Native.Nat.{ℕ, ◌+◌, ◌-◌, ◌*◌, ◌%◌, ◌^◌, ◌≤◌, ◌<◌}
 use native.Mathlib.Omega.{arith}
 use lib.ListN.{length, take, drop, length-append, length-drop, length-replicate, drop_of_length-le}
-use lib.Seq.{take_all, take-append-le, drop-append-le, drop_at}
+use lib.Seq.{take_all, drop-drop, take-append-le, drop-append-le}
 use Rattle.octets.specs.Octets.{part, zeros, filled}
-use Rattle.octets.proofs.PartLaws.{length_part, part_two, part_rest, part_whole}
-use Rattle.octets.proofs.NumberLaws.{Bytes, bytes_part}
+use Rattle.octets.proofs.PartLaws.{part_rest, part_whole}
+use Rattle.octets.proofs.NumberLaws.{Bytes, bytes_drop}
 use Rattle.octets.proofs.ZeroLaws.{length_filled}
 use Rattle.keys.specs.declared.orders.Wide.{Wide}
 use Rattle.keys.specs.Keys.{Key, big, wide_of}
@@ -17,6 +17,17 @@ use Rattle.keys.proofs.ClearLaws.{shifted_out, big_zeros}
 pub padded_wide : (k : Key) → length k ≤ 16 → {x : List ℕ} {w : Wide} → x ≡ filled 16 k → w ≡ wide_of (part 0 16 x) (length k)
     → w ≡ wide_of (filled 16 k) (length k)
 padded_wide k l f g = g ∙ ap (λ (y : List ℕ). wide_of y (length k)) (ap (part 0 16) f ∙ part_whole 16 (filled 16 k) (length_filled 16 k l))
+
+-- the last eight bytes, with the first m shifted out
+pub last_shifted : (k : Key) (m : ℕ) → 8 ≤ length k → m < 8 → Bytes k → {l r : ℕ} → l ≡ big (part (length k - 8) 8 k)
+    → r ≡ l * 2 ^ (8 * m) % 2 ^ 64 → r ≡ big (drop (length k - 8 + m) k) * 2 ^ (8 * m)
+last_shifted k m long few b p q =
+    let from = length k - 8 in
+    let eight : 8 ≡ length k - from = omega arith in
+    let rest : part from 8 k ≡ drop from k = ap (λ (n : ℕ). part from n k) eight ∙ part_rest from k in
+    let len : length (drop from k) ≡ 8 = omega (arith, length-drop from k) in
+    let s = rw len at (shifted_out m (drop from k) (bytes_drop from k b) (omega arith)) in
+    q ∙ rw (p, rest, ← drop-drop m from k) s
 
 module _ (k : Key) (short : length k ≤ 16) (long : 8 ≤ length k) where
   abbrev n : ℕ
@@ -46,19 +57,8 @@ module _ (k : Key) (short : length k ≤ 16) (long : 8 ≤ length k) where
       ap (λ (m : ℕ). record { high = h; low = 0; len = m }) (sym e) ∙ wide p z
 
   -- the bytes behind the eighth are the last of the last eight
-  pub last_wide : {h l m : ℕ} → h ≡ big (part 0 8 k) → l ≡ big (part (n - 8) 8 k) → Bytes k → m ≡ l * 2 ^ (8 * (16 - n)) % 2 ^ 64
-      → record { high = h; low = m; len = n } ≡ wide_of (filled 16 k) n
-  last_wide p q b r =
-      let xs = part (n - 8) 8 k in
-      let len : length xs ≡ 8 = length_part (n - 8) 8 k (omega arith) in
-      let s = rw len at (shifted_out (16 - n) xs (bytes_part (n - 8) 8 k b (omega arith)) (omega arith)) in
-      let d : drop (16 - n) xs ≡ drop 8 k = dropped in
-      wide p (r ∙ rw q (s ∙ rw d))
-    where
-      dropped : drop (16 - n) (part (n - 8) 8 k) ≡ drop 8 k
-      dropped =
-          let w : 8 ≡ (16 - n) + (n - 8) = omega arith in
-          let a : (n - 8) + (16 - n) ≡ 8 = omega arith in
-          let f = length_part (n - 8) (16 - n) k (omega arith) in
-          ap (drop (16 - n)) (ap (λ (j : ℕ). part (n - 8) j k) w ∙ part_two (n - 8) (16 - n) (n - 8) k)
-          ∙ drop_at (part (n - 8) (16 - n) k) (part (n - 8 + (16 - n)) (n - 8) k) (16 - n) f ∙ ap (λ (j : ℕ). part j (n - 8) k) a ∙ part_rest 8 k
+  pub last_wide : {h l : ℕ} → h ≡ big (part 0 8 k) → l ≡ big (drop (n - 8 + (16 - n)) k) * 2 ^ (8 * (16 - n))
+      → record { high = h; low = l; len = n } ≡ wide_of (filled 16 k) n
+  last_wide p q =
+      let d : n - 8 + (16 - n) ≡ 8 = omega arith in
+      wide p (rw d at q)

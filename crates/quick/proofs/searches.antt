@@ -1,3 +1,3 @@
--- The invariant of the search, and a key beside a record.
+-- The invariant of the search, and the words of a record.
 mod Going
-mod Meets
+mod Words

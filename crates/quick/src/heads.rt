@@ -1,5 +1,5 @@
 // Where the records of a namespace lie, by the two halves of the head alone.
-ghost use Rattle.std.specs.Prelude.{◌≡◌, length};
+ghost use Rattle.std.specs.Prelude.{◌≡◌};
 ghost use Rattle.memory.specs.Memory.{memory, label_in};
 ghost use Rattle.quick.specs.Heads.{slots_by, claim_of, run_in, chosen, run_of};
 
@@ -9,7 +9,7 @@ use refusals::numbers::Refusal;
 use table::formats::format_at;
 
 // What a half asks of the slices; in whole words, as two of four bytes are packed into one and taken apart again.
-#[derive(Clone, Copy)]
+#[derive(Clone, Copy, Default)]
 pub struct Claim {
     pub slots: usize,
     pub size: usize,
@@ -18,12 +18,11 @@ pub struct Claim {
 // Number 6, of a half that asks for what there is not. One with id 0 asks for nothing.
 // Words are read where they are asked for: a whole label, read at once, is put aside on the stack, which slows a look by a fifteenth.
 #[tactic(auto, unfolding(crate::specs::Heads::claim_of, memory::specs::Memory::label_in))]
-fn judge(half: &[u8]) -> Result<Claim, Refusal>
-    requires { length half.now ≡ 32 }
+fn judge(half: &[u8; HALF]) -> Result<Claim, Refusal>
     ensures { result ≡ claim_of (label_in half.now) }
 {
     if read32(half, 0) == 0 {
-        return Ok(Claim { slots: 0, size: 0 });
+        return Ok(Claim::default());
     }
     let index = read32(half, 4);
     let size = read32(half, 8);
@@ -39,7 +38,7 @@ fn judge(half: &[u8]) -> Result<Claim, Refusal>
     Err(Refusal::SliceLength)
 }
 
-// The first slot, counted over the whole directory, and how many hold keys.
+// The first slot, counted over the whole directory as in `run_of`, so that it is a number and no slice; and how many hold keys.
 #[derive(Clone, Copy)]
 pub struct Span {
     pub first: usize,
@@ -48,10 +47,8 @@ pub struct Span {
 
 // Number 23, of halves that may ask for what they do; `slots` is what the first one asks for.
 #[tactic(auto, unfolding(memory::specs::Memory::label_in))]
-fn choose(id: u32, first: &[u8], second: &[u8], slots: usize) -> Result<Span, Refusal>
-    requires first { length first.now ≡ 32 }
-    requires second { length second.now ≡ 32 }
-    requires slots { slots ≡ slots_by (label_in first.now) }
+fn choose(id: u32, first: &[u8; HALF], second: &[u8; HALF], slots: usize) -> Result<Span, Refusal>
+    requires { slots ≡ slots_by (label_in first.now) }
     ensures { run_in result ≡ chosen id (label_in first.now) (label_in second.now) }
 {
     if id == 0 {
@@ -73,14 +70,16 @@ fn choose(id: u32, first: &[u8], second: &[u8], slots: usize) -> Result<Span, Re
 }
 
 // Numbers 6 and 23.
+#[tactic(auto, using(crate::proofs::ClaimLaws::run_laws), unfolding(crate::specs::Heads::run_of, octets::specs::Octets::part))]
 pub fn find_run(id: u32, directory: &[u8], values: &[u8]) -> Result<Span, Refusal>
     ensures { run_in result ≡ run_of id (memory directory.now values.now) }
 {
-    if directory.len() < HEAD {
+    let Some((first, rest)) = directory.split_first_chunk::<HALF>() else {
         return Err(Refusal::SliceLength);
-    }
-    let first = &directory[0..HALF];
-    let second = &directory[HALF..HEAD];
+    };
+    let Some((second, _)) = rest.split_first_chunk::<HALF>() else {
+        return Err(Refusal::SliceLength);
+    };
     let a = judge(first)?;
     let b = judge(second)?;
     let end = HEAD + 32 * (a.slots + b.slots);

@@ -7,29 +7,33 @@ ghost use Rattle.quick.specs.Known.{no_look, look_in, known};
 use crate::heads::find_run;
 use crate::searches::search;
 use crate::tags::widen_key;
+use keys::orders::ShortKey;
 use memory::labels::HEAD;
 use refusals::numbers::Refusal;
 
-// A house number; 1 for yes and 0 for no; how many records were looked at.
+// For C, which has no `Result`: a house number; 1 for yes and 0 for no; how many records were looked at.
 #[repr(C)]
-#[derive(Clone, Copy)]
+#[derive(Clone, Copy, Default)]
 pub struct Look {
     pub number: u32,
     pub known: u32,
     pub looked: u32,
 }
 
-fn no_look(refusal: Refusal) -> Look
-    ensures { result ≡ no_look (number_of refusal) }
-{
-    Look {
-        number: refusal.number(),
-        known: 0,
-        looked: 0,
+// Beside a number there is nothing else.
+impl From<Refusal> for Look {
+    ghost from_gives = { λ r l. l ≡ no_look (number_of r) };
+
+    fn from(refusal: Refusal) -> Look {
+        Look {
+            number: refusal.number(),
+            ..Look::default()
+        }
     }
 }
 
 // Numbers 15, 6 and 23.
+#[tactic(auto, using(crate::proofs::HeadLaws::run_lies), unfolding(crate::specs::Known::known, crate::specs::Known::run_for))]
 fn find(key: &[u8], id: u32, directory: &[u8], values: &[u8]) -> Result<Look, Refusal>
     ensures { look_in result ≡ known key.now id (memory directory.now values.now) }
 {
@@ -39,10 +43,10 @@ fn find(key: &[u8], id: u32, directory: &[u8], values: &[u8]) -> Result<Look, Re
     }
     let span = find_run(id, directory, values)?;
     Ok(search(
-        &directory[HEAD..directory.len()],
+        &directory[HEAD..],
         span.first,
         span.count,
-        widen_key(key),
+        widen_key(ShortKey { bytes: key }),
     ))
 }
 
@@ -50,5 +54,5 @@ fn find(key: &[u8], id: u32, directory: &[u8], values: &[u8]) -> Result<Look, Re
 pub fn known(key: &[u8], id: u32, directory: &[u8], values: &[u8]) -> Look
     ensures { result ≡ known key.now id (memory directory.now values.now) }
 {
-    find(key, id, directory, values).unwrap_or_else(no_look)
+    find(key, id, directory, values).unwrap_or_else(Look::from)
 }

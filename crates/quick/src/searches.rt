@@ -13,6 +13,7 @@ use std::cmp::Ordering;
 
 // The key beside that of the record at an index. Most often the first eight bytes tell, and no more is read then. Written
 // out, with the test for below first: by `cmp`, whole or word by word with `then_with`, a look takes more instructions.
+#[tactic(auto, using(crate::proofs::searches::Words::word_laws))]
 fn beside(records: &[u8], at: usize, wanted: Wide) -> Ordering
     requires { at + 32 ≤ length records.now }
     ensures { result ≡ order_wide wanted (wide_in (drop at records.now)) }
@@ -31,7 +32,7 @@ fn beside(records: &[u8], at: usize, wanted: Wide) -> Ordering
     if low < wanted.low {
         return Ordering::Greater;
     }
-    let len = read32(records, at + 16) as u64;
+    let len = u64::from(read32(records, at + 16));
     if wanted.len < len {
         return Ordering::Less;
     }
@@ -41,8 +42,9 @@ fn beside(records: &[u8], at: usize, wanted: Wide) -> Ordering
     Ordering::Equal
 }
 
-// By halves, among `count` slots from `first` on. By hand, since the records are bytes of a lent slice, the looks are counted, and a
-// key that is met ends the search.
+// By halves, among `count` slots from `first` on. By hand, since the looks are counted, and a key that is met ends the search. The answer is
+// C's struct at once: one between them would have the same two fields.
+#[tactic(auto, using(crate::proofs::searches::Going::going_laws))]
 pub fn search(records: &[u8], first: usize, count: usize, wanted: Wide) -> Look
     requires { (first + count ≤ 2048) × (32 * (first + count) ≤ length records.now) }
     ensures { result ≡ look_of 0 (search count (λ j. order_wide wanted (wide_in (drop (32 * j) records.now))) first count) }

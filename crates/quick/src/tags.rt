@@ -1,22 +1,30 @@
-// The key that is looked for, as numbers.
-ghost use Rattle.std.specs.Prelude.{◌≡◌, ◌≤◌, length};
+// The key that is looked for, as numbers. No `From`: both types are those of `keys`, which does not read keys in place.
+ghost use Rattle.std.specs.Prelude.{◌≡◌, ◌+◌, ◌-◌, ◌*◌, ◌^◌, ◌≤◌, ◌<◌, length, drop};
 ghost use Rattle.octets.specs.Octets.{filled};
-ghost use Rattle.keys.specs.Keys.{wide_of};
+ghost use Rattle.keys.specs.Keys.{big, wide_of};
 
-use keys::orders::{Wide, pad, widen};
+use keys::orders::{ShortKey, Wide, widen};
 use keys::wide::read_big;
 
-// A key of eight bytes or more is read in place: its last eight bytes, with those of the first number shifted out, are the second.
-pub fn widen_key(key: &[u8]) -> Wide
-    requires { length key.now ≤ 16 }
-    ensures { result ≡ wide_of (filled 16 key.now) (length key.now) }
+// The last eight bytes, with the first `out` of them shifted out.
+fn read_last(s: &[u8], out: u64) -> u64
+    requires long { 8 ≤ length s.now }
+    requires few { out < 8 }
+    ensures { result ≡ big (drop (length s.now - 8 + out) s.now) * 2 ^ (8 * out) }
 {
-    let n = key.len();
+    read_big(s, s.len() - 8) << (8 * out)
+}
+
+// A key of eight bytes or more is read in place: its last eight bytes, with those of the first number shifted out, are the second.
+pub fn widen_key(key: ShortKey) -> Wide
+    ensures { result ≡ wide_of (filled 16 key.entry.bytes.now) (length key.entry.bytes.now) }
+{
+    let n = key.bytes.len();
     if n < 8 {
-        let sixteen = pad(key);
+        let sixteen = key.pad();
         return widen(&sixteen, 0, n as u64);
     }
-    let high = read_big(key, 0);
+    let high = read_big(key.bytes, 0);
     if n == 8 {
         return Wide {
             high,
@@ -24,10 +32,9 @@ pub fn widen_key(key: &[u8]) -> Wide
             len: 8,
         };
     }
-    let last = read_big(key, n - 8);
     Wide {
         high,
-        low: last << (8 * (16 - n as u64)),
+        low: read_last(key.bytes, 16 - n as u64),
         len: n as u64,
     }
 }

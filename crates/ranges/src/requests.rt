@@ -28,6 +28,7 @@ pub fn check_length(memory: &[u8]) -> Result<(), Refusal>
 }
 
 impl Request {
+    // No `From`: as with `Record::read`, what bytes say is read from them.
     #[tactic(auto, unfolding(crate::specs::Request::read_request))]
     pub fn read(entry: &[u8; 64]) -> Request
         ensures { result ≡ read_request entry.now }
@@ -44,7 +45,7 @@ impl Request {
     fn is_past(self, size: usize) -> bool
         ensures { result ≡ ltb size (self.start + self.len) }
     {
-        let end = self.start.checked_add(self.len as u64);
+        let end = self.start.checked_add(u64::from(self.len));
         end.is_none_or(|end| (size as u64) < end)
     }
 

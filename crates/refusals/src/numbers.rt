@@ -1,8 +1,9 @@
-// The house numbers, under the names of `include/kv.h`.
+// The house numbers, under the names of `include/kv.h`. Each struct that C is given has a `From<Refusal>` of its own: one for all of them would
+// overlap with std's `From<T> for T`.
 ghost use Rattle.std.specs.Prelude.{◌≡◌};
 ghost use Rattle.refusals.specs.Refusals.{number_of, number_in};
 
-#[derive(Clone, Copy, PartialEq, Eq)]
+#[derive(Clone, Copy)]
 pub enum Refusal {
     EntryLength = 1,
     CompletionLength = 2,
@@ -26,6 +27,7 @@ pub enum Refusal {
 }
 
 impl Refusal {
+    // No `From`: the name says which number.
     pub fn number(self) -> u32
         ensures { result ≡ number_of self }
     {
@@ -33,7 +35,7 @@ impl Refusal {
     }
 }
 
-// What C is told: 0 where nothing was refused.
+// What C is told: 0 where nothing was refused. No method, as `Result` is no type of this crate.
 pub fn number(outcome: Result<(), Refusal>) -> u32
     ensures { result ≡ number_in outcome }
 {

@@ -1,8 +1,9 @@
-// The statuses of a completion, all of type 0, under the names of `include/kv.h`.
+// The statuses of a completion, all of type 0, under the names of `include/kv.h`. A trait over them and the house numbers would not be shorter:
+// each has a width, a definition and a word of its own.
 ghost use Rattle.std.specs.Prelude.{◌≡◌};
 ghost use Rattle.refusals.specs.Refusals.{code_of, code_in};
 
-#[derive(Clone, Copy, PartialEq, Eq)]
+#[derive(Clone, Copy)]
 pub enum Status {
     InvalidOpcode = 0x01,
     InvalidField = 0x02,
@@ -18,6 +19,7 @@ pub enum Status {
 }
 
 impl Status {
+    // No `From`: the name says that it is the code, as the papers have it.
     pub fn code(self) -> u8
         ensures { result ≡ code_of self }
     {
@@ -25,7 +27,7 @@ impl Status {
     }
 }
 
-// What the completion says: 00h where nothing was refused.
+// What the completion says: 00h where nothing was refused. No method, as `Result` is no type of this crate.
 pub fn code<T: Drop>(outcome: Result<T, Status>) -> u8
     ensures { result ≡ code_in outcome }
 {

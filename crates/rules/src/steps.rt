@@ -12,6 +12,7 @@ use wire::entries::{Command, Opcode};
 // What the steps to h look at beside the command: whether memory is legal, the namespace's format and id, and the length of the data buffer.
 #[derive(Clone, Copy)]
 pub struct View {
+    // The caller answers 06h before, so this is always true; it stays, as `steps_to_h` (specs/Steps.antt) names the row.
     pub legal: bool,
     pub format: Format,
     pub id: u32,
@@ -21,6 +22,7 @@ pub struct View {
 // What steps i and j look at: whether the key is held and the room of its pair, how full the namespace is, and its limits.
 #[derive(Clone, Copy)]
 pub struct Stock {
+    // No `Option` of the room: `steps_from_i` names the flag in its rows, and the room beside it.
     pub held: bool,
     pub old: u64,
     pub used: u32,
@@ -29,7 +31,7 @@ pub struct Stock {
     pub size: u32,
 }
 
-// A test, and the status that it names.
+// A test, and the status that it names: a row of `specs/Steps.antt`.
 #[derive(Clone, Copy)]
 pub struct Row(pub bool, pub Status);
 
@@ -57,8 +59,7 @@ pub fn decide_early(c: Command, v: View) -> Result<(), Status>
     let list = c.is(Opcode::List);
     let wrong_size = (f.keymax < c.len) | (c.len == 0) & !list;
     let short = v.room < c.amount as usize;
-    let key = c.key;
-    let clear = ends_clear(key, c.len);
+    let clear = ends_clear(c.key, c.len);
     first_of(&[
         Row(!v.legal, Status::Internal),
         Row(Opcode::try_from(c.opcode).is_err(), Status::InvalidOpcode),
@@ -82,11 +83,13 @@ pub fn decide_late(c: Command, u: Stock) -> Result<(), Status>
     let retrieve = c.is(Opcode::Retrieve);
     let delete = c.is(Opcode::Delete);
     let exist = c.is(Opcode::Exist);
+    // two bits of the entry's options byte, as `if_present` and `if_absent` take them
     let if_present = store & (c.options % 2 == 1);
     let if_absent = store & (c.options / 2 % 2 == 1);
     let needs = retrieve | delete | exist | if_present;
     let full = !u.held & (u.maxkeys <= u.count);
-    let exceeds = (u.size as u64) < u.used as u64 - u.old + c.len as u64 + c.amount as u64;
+    let filled = u64::from(u.used) - u.old + u64::from(c.len) + u64::from(c.amount);
+    let exceeds = u64::from(u.size) < filled;
     first_of(&[
         Row(needs & !u.held, Status::KeyAbsent),
         Row(if_absent & u.held, Status::KeyExists),

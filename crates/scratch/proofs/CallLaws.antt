@@ -1,7 +1,7 @@
 -- The laws of an attempt and of a call: refused by a row, and let pass. Assumes nothing.
 use mathlib.Core.Path.{◌≡◌, sym, ◌∙◌}
 use mathlib.Core.Bool.{false}
-use mathlib.Core.List.{List, [], ◌∷◌}
+use mathlib.Core.List.{List}
 use Prim.Native.Nat.{ℕ, ◌+◌, ◌%◌, ◌≤◌}
 use lib.ListN.{length}
 use borrow.Author.Tests.{ltb-false, eqb-true, not-false, eq-eqb, ne_eqb}
@@ -9,7 +9,7 @@ use Rattle.octets.specs.Tests.{first_of}
 use Rattle.octets.proofs.TestLaws.{both, none_holds}
 use Rattle.wire.specs.Completion.{Post, posted}
 use Rattle.ranges.specs.declared.requests.Request.{Request}
-use Rattle.ranges.specs.Request.{aligned, read_request, not_memory, numbers, statuses}
+use Rattle.ranges.specs.Request.{aligned, read_request, numbers, statuses}
 use Rattle.scratch.specs.Calls.{Task, lacks, Tried, tried, effect, attempt, Slices, slices, ended, memory_call}
 
 -- ---- an attempt
@@ -35,19 +35,6 @@ module _ (t : Task) (id : ℕ) (q : Request) (b m : List ℕ) {st : ℕ} (e : st
       let w = both (aligned q.start) (aligned q.len) (not-false _ n.1.0) in
       record { lies = ltb-false _ _ n.1.1.0; words = eqb-true _ 0 w.1; enough = n.1.1.1.0 }
 
--- ---- the number, where the types hold the lengths of the entry and the completion
-
-module _ (e : List ℕ) (s : Slices) where
-  pub no_entry : (length e ≡ 64 → ⊥) → 1 ≡ first_of (numbers e s.completion s.memory)
-  no_entry h = rw (ne_eqb (length e) 64 h)
-
-  module _ (le : length e ≡ 64) where
-    pub no_completion : (length s.completion ≡ 16 → ⊥) → 2 ≡ first_of (numbers e s.completion s.memory)
-    no_completion h = rw (eq-eqb (length e) 64 le, ne_eqb (length s.completion) 16 h)
-
-    pub both_whole : length s.completion ≡ 16 → first_of (not_memory s.memory ∷ []) ≡ first_of (numbers e s.completion s.memory)
-    both_whole lc = rw (eq-eqb (length e) 64 le, eq-eqb (length s.completion) 16 lc)
-
 -- ---- a call
 
 module _ (e : List ℕ) (s : Slices) {k : ℕ} (f : k ≡ first_of (numbers e s.completion s.memory)) where
@@ -56,7 +43,7 @@ module _ (e : List ℕ) (s : Slices) {k : ℕ} (f : k ≡ first_of (numbers e s.
   call_refused t p id h = rw (← f, ne_eqb k 0 h)
 
   -- the entry read, the attempt made and the completion written
-  pub call_done : (t : Task) (p : Post) (id : ℕ) {q : Request} {r : Tried} {c : List ℕ} → k ≡ 0 → q ≡ read_request e → r ≡ attempt t id q s.buffer s.memory
-      → c ≡ posted p q.cid r.status 0 → ended 0 (slices c r.buffer r.memory) ≡ memory_call t p id e s
+  pub call_done : (t : Task) (p : Post) (id : ℕ) {q : Request} {r : Tried} {c : List ℕ} → k ≡ 0 → q ≡ read_request e
+      → r ≡ attempt t id q s.buffer s.memory → c ≡ posted p q.cid r.status 0 → ended 0 (slices c r.buffer r.memory) ≡ memory_call t p id e s
   unfolding memory_call
   call_done t p id h eq er ec = rw (← f, h, ← eq, ← er, ec)

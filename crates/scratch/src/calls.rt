@@ -1,5 +1,7 @@
 // The memory commands from their bytes. The three stand written out: of what a closure wrote through a borrow that it holds, its caller's proof
-// knows nothing afterwards, so no function that takes the effect can say what becomes of the buffer or the memory.
+// knows nothing afterwards, so no function that takes the effect can say what becomes of the buffer or the memory. A trait over three structs that
+// hold the borrows would be longer than what the three share, and their common beginning would have to hand back a `&mut` in a `Result`, of
+// which Rattle tells a caller nothing where a slice is lent.
 ghost use Rattle.std.specs.Prelude.{◌≡◌, []};
 ghost use Rattle.refusals.specs.Refusals.{number_in, code_in};
 ghost use Rattle.wire.specs.Completion.{posted};
@@ -17,6 +19,7 @@ fn conclude(completion: &mut [u8; 16], post: Post, cid: u16, outcome: Result<(),
     write_completion(completion, post.completion(cid, code(outcome), 0));
 }
 
+#[tactic(auto, unfolding(crate::specs::Calls::memory_call))]
 pub fn memory_read(
     entry: &[u8],
     completion: &mut [u8],
@@ -42,6 +45,7 @@ pub fn memory_read(
     Ok(())
 }
 
+#[tactic(auto, unfolding(crate::specs::Calls::memory_call))]
 pub fn memory_write(
     entry: &[u8],
     completion: &mut [u8],
@@ -67,6 +71,7 @@ pub fn memory_write(
     Ok(())
 }
 
+#[tactic(auto, unfolding(crate::specs::Calls::memory_call))]
 pub fn memory_fill(
     entry: &[u8],
     completion: &mut [u8],

@@ -1,4 +1,4 @@
-// The three commands, on a request that is already read: the status that refuses it, or the bytes moved.
+// The three commands, on a request that is already read: the status that refuses it, or the bytes moved. Three for the reason in `calls.rt`.
 ghost use Rattle.std.specs.Prelude.{◌≡◌, []};
 ghost use Rattle.refusals.specs.Refusals.{code_in};
 ghost use Rattle.scratch.specs.Calls.{reading, writing, filling, tried, attempt};
@@ -8,6 +8,7 @@ use octets::runs::copy_at;
 use ranges::requests::Request;
 use refusals::statuses::Status;
 
+#[tactic(auto, unfolding(crate::specs::Calls::attempt, octets::specs::Octets::part))]
 pub fn read_out(q: Request, id: u32, buffer: &mut [u8], memory: &[u8]) -> Result<(), Status>
     ensures { tried (code_in result) buffer.new memory.now ≡ attempt reading id q buffer.old memory.now }
 {
@@ -17,6 +18,7 @@ pub fn read_out(q: Request, id: u32, buffer: &mut [u8], memory: &[u8]) -> Result
     Ok(())
 }
 
+#[tactic(auto, unfolding(crate::specs::Calls::attempt))]
 pub fn write_in(q: Request, id: u32, buffer: &[u8], memory: &mut [u8]) -> Result<(), Status>
     ensures { tried (code_in result) buffer.now memory.new ≡ attempt writing id q buffer.now memory.old }
 {
@@ -25,6 +27,7 @@ pub fn write_in(q: Request, id: u32, buffer: &[u8], memory: &mut [u8]) -> Result
     Ok(())
 }
 
+#[tactic(auto, unfolding(crate::specs::Calls::attempt))]
 pub fn fill_up(q: Request, id: u32, word: u32, memory: &mut [u8]) -> Result<(), Status>
     ensures { tried (code_in result) [] memory.new ≡ attempt (filling word) id q [] memory.old }
 {

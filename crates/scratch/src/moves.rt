@@ -1,4 +1,6 @@
 // A word put into a slice over and over, in blocks whose length the compiler knows: it writes their loop out, with one test in front for a whole block.
+// The plain loop takes twice the instructions (docs/SPEED.md).
+// What a slice holds once the borrow of `as_chunks_mut` or `chunks_exact_mut` ends, the library does not say: a fill through them leaves `ensures` open.
 ghost use Rattle.std.specs.Prelude.{◌≡◌, ◌+◌, ◌*◌, ◌≤◌, length};
 ghost use Rattle.octets.specs.Octets.{put, bytes};
 ghost use Rattle.scratch.specs.Calls.{over};

@@ -1,24 +1,23 @@
 -- The List page: an entry's words, what the first entry of a rest reads as, a page of rising keys that is read back, and a page
 -- written entry by entry. Assumes nothing.
 use mathlib.Core.Path.{◌≡◌, refl, sym, ap, ap₂, ◌∙◌}
-use mathlib.Core.Bool.{true, false, ◌||◌}
 use mathlib.Core.List.{List, [], ◌∷◌, ◌++◌, append_assoc}
 use Prim.Native.Nat.{ℕ, ◌+◌, ◌-◌, ◌^◌, ◌≤◌, ◌<◌, suc}
 use native.Mathlib.Omega.{arith}
 use native.Mathlib.Nat.{zero-add, add-zero}
 use lib.ListN.{length, take, drop_of_length-le, length-append, length-replicate, replicate-append-replicate}
 use lib.Seq.{drop_at, take_at, take_all, length-take-le}
-use lib.Dec.{ltb, eqb, leb}
-use borrow.Author.Tests.{le-ltb, ne_eqb, lt-ltb, leb-true, le-leb, lt-leb}
-use Rattle.octets.specs.Octets.{part, put, number, bytes, zeros, filled, all_zero}
-use Rattle.keys.specs.Keys.{Key, below}
+use lib.Dec.{leb}
+use borrow.Author.Tests.{le-ltb, ne_eqb, leb-true, le-leb, lt-leb}
+use Rattle.octets.specs.Octets.{part, put, number, bytes, zeros, filled}
+use Rattle.keys.specs.Keys.{Key}
 use Rattle.octets.proofs.PartLaws.{length_part, part_seam, part_take, part_two, part_whole, drop_past, put_none, put_then, put_part, put_next, put_ahead}
 use Rattle.octets.proofs.NumberLaws.{number_bytes}
 use Rattle.octets.proofs.ZeroLaws.{zeros_all, part_filled}
-use Rattle.keys.proofs.OrderLaws.{Below, BelowFirst, Rising}
+use Rattle.keys.proofs.OrderLaws.{slice_less, Below, BelowFirst, Rising}
 use Rattle.octets.proofs.TestLaws.{known, holds, fails}
 use Rattle.sheets.specs.declared.pages.Field.{Field}
-use Rattle.sheets.specs.Page.{entry_size, padding, page_entry, entries, page, Entry, first_entry, keys, read_entries, read_page, entry_steps, fits}
+use Rattle.sheets.specs.Page.{entry_size, padding, page_entry, entries, page, first_entry, keys, read_entries, read_page, entry_steps, fits}
 
 pub length_entry : (k : Key) → length (page_entry k) ≡ entry_size (length k)
 unfolding page_entry
@@ -111,42 +110,12 @@ module _ (field : Field) where
         let all : take 20 k ≡ k = take_all 20 k (omega (arith, entry_long)) in
         rw all at (put_part 16 4 k xs d e t (put_part 12 4 k xs c d s (put_part 8 4 k xs b c r (put_part 4 4 k xs a b q p l) l) l) l)
 
--- ---- what the first entry of a rest of a page reads as, return by return of the code
-
--- the code lends the key as the part from 2 to 2 + n
+-- code lends the key as the part from 2 to 2 + n
 pub back : (n : ℕ) → 2 + n - 2 ≡ n
 back n = omega arith
 
-abbrev refusal : ℕ → Entry
-refusal n = record { number = n; len = 0 }
-
-pub first_short : (j : Key) (s : List ℕ) → length s < 2 → first_entry j s ≡ refusal 8
-unfolding first_entry entry_steps
-first_short j s h = rw (lt-ltb (length s) 2 h)
-
-module _ (j : Key) (s : List ℕ) (n : ℕ) (e : n ≡ number (part 0 2 s)) (l : 2 ≤ length s) where
-  pub first_sized : (eqb n 0 || ltb 16 n) ≡ true → first_entry j s ≡ refusal 9
-  unfolding first_entry entry_steps
-  first_sized h = rw (le-ltb (length s) 2 l, ← e, h)
-
-  module _ (m : ℕ) (f : m ≡ entry_size n) (sized : (eqb n 0 || ltb 16 n) ≡ false) where
-    pub first_cut : length s < m → first_entry j s ≡ refusal 8
-    unfolding first_entry entry_steps
-    first_cut h = rw (le-ltb (length s) 2 l, ← e, sized, ← f, lt-ltb (length s) m h)
-
-    module _ (fits : m ≤ length s) where
-      pub first_unpadded : all_zero (part (2 + n) (m - (2 + n)) s) ≡ false → first_entry j s ≡ refusal 10
-      unfolding first_entry entry_steps
-      first_unpadded h = rw (le-ltb (length s) 2 l, ← e, sized, ← f, le-ltb (length s) m fits, h)
-
-      module _ (z : all_zero (part (2 + n) (m - (2 + n)) s) ≡ true) where
-        pub first_low : below j (part 2 (2 + n - 2) s) ≡ false → first_entry j s ≡ refusal 11
-        unfolding first_entry entry_steps
-        first_low h = rw (le-ltb (length s) 2 l, ← e, sized, ← f, le-ltb (length s) m fits, z, rw (back n) at h)
-
-        pub first_read : below j (part 2 (2 + n - 2) s) ≡ true → first_entry j s ≡ record { number = 0; len = n }
-        unfolding first_entry entry_steps
-        first_read h = rw (le-ltb (length s) 2 l, ← e, sized, ← f, le-ltb (length s) m fits, z, rw (back n) at h)
+-- two keys, as code compares them
+pub ruleset order = (slice_less)
 
 -- ---- a page of rising keys is read back, whatever lies behind it
 
@@ -171,11 +140,13 @@ module _ (j k : Key) (t : List ℕ) (lo : 1 ≤ length k) (hi : length k ≤ 16)
       rw (l, length-replicate) at (part_seam (bytes 2 (length k) ++ k) (zeros (padding (length k))) t)
 
   pub entry_back : first_entry j (page_entry k ++ t) ≡ record { number = 0; len = length k }
+  unfolding first_entry entry_steps
   entry_back =
       let l : length (page_entry k ++ t) ≡ entry_size (length k) + length t = simp (length-append, length_entry) in
-      first_read j (page_entry k ++ t) (length k) the_number (omega arith) (entry_size (length k)) refl
-      (rw (ne_eqb (length k) 0 (λ e. omega arith), le-ltb 16 (length k) hi)) (omega arith)
-      (ap all_zero the_zeros ∙ zeros_all (padding (length k))) (rw (back (length k), the_key, up))
+      let few = le-ltb (length (page_entry k ++ t)) 2 (omega arith) in
+      let cut = le-ltb (length (page_entry k ++ t)) (entry_size (length k)) (omega arith) in
+      rw (few, ← the_number, ne_eqb (length k) 0 (λ e. omega arith), le-ltb 16 (length k) hi, cut)
+      (rw (the_zeros, zeros_all (padding (length k)), the_key, up))
 
 pub entries_back : (j : Key) (ks : List Key) (t : List ℕ) → BelowFirst j ks → Rising ks → Sized ks → read_entries (length ks) j (entries ks ++ t) ≡ keys ks
 entries_back j [] t b r s = refl

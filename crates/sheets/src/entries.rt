@@ -6,7 +6,8 @@ use crate::pages::page_entry_size;
 use octets::{runs, words};
 use refusals::numbers::Refusal;
 
-// The length of the entry's key. What is before the first entry is the empty key.
+// The length of the entry's key, as in `first_entry`. What is before the first entry is the empty key.
+#[tactic(auto, using(crate::proofs::PageLaws::order), unfolding(crate::specs::Page::first_entry, crate::specs::Page::entry_steps, octets::specs::Octets::part))]
 pub fn read_page_entry(rest: &[u8], before: &[u8]) -> Result<usize, Refusal>
     ensures value { entry_in result ≡ first_entry before.now rest.now }
     ensures fits { IfOk result (λ n. (n ≤ 16) × (entry_size n ≤ length rest.now)) }
@@ -14,7 +15,7 @@ pub fn read_page_entry(rest: &[u8], before: &[u8]) -> Result<usize, Refusal>
     if rest.len() < 2 {
         return Err(Refusal::PageEntry);
     }
-    let n = words::read16(rest, 0) as usize;
+    let n = usize::from(words::read16(rest, 0));
     if (n == 0) | (16 < n) {
         return Err(Refusal::PageKeyLength);
     }

@@ -3,7 +3,7 @@ ghost use Rattle.std.specs.Prelude.{◌≡◌, true, ◌+◌, ◌%◌, ◌≤◌
 ghost use Rattle.octets.specs.Octets.{part, put, all_zero};
 ghost use Rattle.sheets.specs.Page.{entry_size, page_entry};
 
-use octets::words;
+use octets::{runs, words};
 
 // Two bytes of length and the key, rounded up to whole words.
 pub fn page_entry_size(n: usize) -> usize
@@ -14,21 +14,16 @@ pub fn page_entry_size(n: usize) -> usize
 }
 
 // All bytes of a word are read before one is written, so that the compiler moves them at once.
-fn copy16(key: &[u8], from: usize, rest: &mut [u8], at: usize)
-    requires { (from + 2 ≤ length key.now) × (at + 2 ≤ length rest.old) }
-    ensures { rest.new ≡ put at (part from 2 key.now) rest.old }
+fn copy_word<const N: usize>(key: &[u8], from: usize, rest: &mut [u8], at: usize)
+    requires { (from + N ≤ length key.now) × (at + N ≤ length rest.old) }
+    ensures { rest.new ≡ put at (part from N key.now) rest.old }
 {
-    words::write16(rest, at, words::read16(key, from));
+    let word: [u8; N] = words::bytes_at(key, from);
+    runs::copy_at(&word, rest, at);
 }
 
-fn copy32(key: &[u8], from: usize, rest: &mut [u8], at: usize)
-    requires { (from + 4 ≤ length key.now) × (at + 4 ≤ length rest.old) }
-    ensures { rest.new ≡ put at (part from 4 key.now) rest.old }
-{
-    words::write32(rest, at, words::read32(key, from));
-}
-
-// A key as it stands in a record: in sixteen bytes, with zeros behind it.
+// A key as it stands in a record: in sixteen bytes, with zeros behind it. The length stands beside them, as an entry has some of the zeros
+// too; the bytes are a slice, since an array of it would come through an `Option`.
 #[derive(Clone, Copy)]
 pub struct Field<'a> {
     pub bytes: &'a [u8],
@@ -39,7 +34,8 @@ pub struct Field<'a> {
 }
 
 // An entry is written word by word, each straight from the record and only where the entry reaches it, so that the compiler needs
-// no copy of the key and no loop over its bytes. The word that holds the key's end holds the entry's zeros too.
+// no copy of the key and no loop over its bytes. The word that holds the key's end holds the entry's zeros too. That the
+// entry fits into what remains is between two values, and so a clause.
 impl Field<'_> {
     // The length, and the key's first two bytes.
     fn write_first(&self, rest: &mut [u8])
@@ -47,7 +43,7 @@ impl Field<'_> {
         ensures { rest.new ≡ put 0 (part 0 4 (page_entry (take self.now.len self.now.bytes.now))) rest.old }
     {
         words::write16(rest, 0, self.len as u16);
-        copy16(self.bytes, 0, rest, 2);
+        copy_word::<2>(self.bytes, 0, rest, 2);
     }
 
     // Four bytes of the key, from an index on.
@@ -56,7 +52,7 @@ impl Field<'_> {
         ensures { rest.new ≡ put (2 + from) (part (2 + from) 4 (page_entry (take self.now.len self.now.bytes.now))) rest.old }
     {
         if from < self.len {
-            copy32(self.bytes, from, rest, 2 + from);
+            copy_word::<4>(self.bytes, from, rest, 2 + from);
         }
     }
 
@@ -66,7 +62,7 @@ impl Field<'_> {
         ensures { rest.new ≡ put 16 (part 16 4 (page_entry (take self.now.len self.now.bytes.now))) rest.old }
     {
         if 14 < self.len {
-            copy16(self.bytes, 14, rest, 16);
+            copy_word::<2>(self.bytes, 14, rest, 16);
             words::write16(rest, 18, 0);
         }
     }

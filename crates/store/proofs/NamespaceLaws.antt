@@ -1,6 +1,7 @@
 -- The formats' bounds; what numbers 3 to 5 let pass and the limits of a namespace, as named facts; insert and erase keep to what a
 -- format admits. Assumes nothing.
-use Rattle.std.proofs.Common.{◌≡◌, ℕ, ◌/◌, ◌^◌, ◌<◌, ◌≤◌, true, eqb, ltb, leb, List, [], ◌∷◌, length, refl, div-le_self, arith, ltb-false, le-ltb, ne_eqb, eqb-true, le-leb, leb-false, leb-true}
+use Rattle.std.proofs.Common.{◌≡◌, ℕ, ◌/◌, ◌^◌, ◌<◌, ◌≤◌, true, eqb, ltb, leb, List, [], ◌∷◌, length, refl, div-le_self, arith, ltb-false, le-ltb}
+use Rattle.std.proofs.Common.{ne_eqb, eqb-true, le-leb, leb-false, leb-true}
 use native.Mathlib.Nat.{pow-le-pow_right}
 use borrow.Author.Tests.{eqb-false, lt-leb}
 use Rattle.keys.specs.Keys.{Key}

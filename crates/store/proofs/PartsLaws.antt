@@ -1,5 +1,6 @@
 -- The parts of an image have their lengths and are read back. Assumes nothing.
-use Rattle.std.proofs.Common.{◌≡◌, ℕ, zero, suc, ◌+◌, ◌-◌, ◌*◌, ◌≤◌, List, [], ◌∷◌, ◌++◌, length, drop, refl, ap, ◌∙◌, append_assoc, add-zero, add_assoc, arith, length-append}
+use Rattle.std.proofs.Common.{◌≡◌, ℕ, zero, suc, ◌+◌, ◌-◌, ◌*◌, ◌≤◌, List, [], ◌∷◌, ◌++◌, length, drop, refl, ap, ◌∙◌, append_assoc, add-zero}
+use Rattle.std.proofs.Common.{add_assoc, arith, length-append}
 use lib.Seq.{take-append_seam, drop-append_seam}
 use Rattle.octets.specs.Octets.{zeros}
 use Rattle.octets.proofs.ZeroLaws.{length_filled}

@@ -1,5 +1,6 @@
 -- The slot of a key among rising keys, and what the map does there. Assumes nothing.
-use Rattle.std.proofs.Common.{◌≡◌, ℕ, zero, suc, ◌+◌, ◌*◌, ◌<◌, ◌≤◌, true, false, ltb, List, [], ◌∷◌, length, get_or, take, drop, sym, refl, ap, ◌∙◌, arith, drop-drop, le-ltb, lt-ltb}
+use Rattle.std.proofs.Common.{◌≡◌, ℕ, zero, suc, ◌+◌, ◌*◌, ◌<◌, ◌≤◌, true, false, ltb, List, [], ◌∷◌, length, get_or, take, drop, sym, refl, ap, ◌∙◌}
+use Rattle.std.proofs.Common.{arith, drop-drop, le-ltb, lt-ltb}
 use lib.Dec.{leb-suc-suc}
 use Rattle.std.specs.Ordering.{is_lt, is_eq}
 use Rattle.keys.specs.Keys.{Key, order, from}

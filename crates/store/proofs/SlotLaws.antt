@@ -1,5 +1,6 @@
 -- What stands at a slot of an image: the words of its record, its key and its value. Assumes nothing.
-use Rattle.std.proofs.Common.{◌≡◌, ℕ, suc, ◌+◌, ◌-◌, ◌*◌, ◌^◌, ◌<◌, ◌≤◌, List, [], ◌∷◌, ◌++◌, length, take, drop, sym, refl, ap, ◌∙◌, append_assoc, zero-add, arith, length-append, length-drop, take-append-drop, length-take-le, drop-cons, drop_at}
+use Rattle.std.proofs.Common.{◌≡◌, ℕ, suc, ◌+◌, ◌-◌, ◌*◌, ◌^◌, ◌<◌, ◌≤◌, List, [], ◌∷◌, ◌++◌, length, take, drop, sym, refl, ap, ◌∙◌, append_assoc}
+use Rattle.std.proofs.Common.{zero-add, arith, length-append, length-drop, take-append-drop, length-take-le, drop-cons, drop_at}
 use lib.Seq.{split_at}
 use Rattle.octets.specs.Octets.{part, zeros, filled}
 use Rattle.octets.proofs.PartLaws.{part_seam}

@@ -1,2 +1,2 @@
--- The invariant of the search by halves.
-mod Halves
+-- The records as arrays, and the slot that divides them.
+mod Rows

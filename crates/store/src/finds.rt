@@ -6,8 +6,9 @@ ghost use Rattle.store.specs.Finds.{keys_in, found, KeysFit};
 use crate::records::Record;
 use keys::orders::widen;
 
-// A key with the slot of the first record that is not below it, and whether that one holds it. The slot is wanted either way, to
-// write there or to list from there, so it stands beside `held` and in no variant.
+// A key with the slot of the first record that is not below it, and whether that one holds it. They are two fields and no
+// `Result<slot, slot>`: the definition `found` gives a value to both, and the facts that `maps/specs/Asks.antt` asks for read both. Key and
+// length stand as in `Command`.
 #[derive(Clone, Copy)]
 pub struct Found {
     pub key: [u8; 16],
@@ -16,26 +17,18 @@ pub struct Found {
     pub slot: u32,
 }
 
-// By halves, since the keys rise; by hand, since the records are bytes of a lent slice, and std searches slices of values.
+// As arrays the records are values, which the library searches by halves: their keys rise.
 pub fn find(records: &[u8], count: u32, key: [u8; 16], len: u8) -> Found
     requires { KeysFit count records.now × Padded len key }
     ensures { result ≡ found key len (keys_in count records.now) }
 {
-    let wanted = widen(&key, 0, len as u64);
-    let mut low = 0;
-    let mut high = count;
-    while low < high {
-        let middle = (low + high) / 2;
-        if Record::read(records, middle).key < wanted {
-            low = middle + 1;
-        } else {
-            high = middle;
-        }
-    }
+    let wanted = widen(&key, 0, u64::from(len));
+    let rows = &records.as_chunks::<32>().0[..count as usize];
+    let slot = rows.partition_point(|row| Record::read(row, 0).key < wanted) as u32;
     Found {
         key,
         len,
-        held: low < count && Record::read(records, low).key == wanted,
-        slot: low,
+        held: slot < count && Record::read(records, slot).key == wanted,
+        slot,
     }
 }

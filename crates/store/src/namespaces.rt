@@ -1,6 +1,6 @@
 // What is known of a namespace beside its parts.
 
-#[derive(Clone, Copy)]
+#[derive(Clone, Copy, Default)]
 pub struct Label {
     pub id: u32,
     pub index: u32,

@@ -1,3 +1,3 @@
 #![tactic(auto)]
-// The formats: one constant table for formatting, the check and the Identify page.
+// The formats: one constant table for all who go by the limits of one.
 pub mod formats;

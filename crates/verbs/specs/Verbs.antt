@@ -20,29 +20,26 @@ record_out d i n s =
 unfoldable pub place_for : List ℕ → Spot → ℕ
 place_for s a = cond (nat_lt a.slot a.count) (place (drop (32 * a.slot) s)) a.total
 
--- a record of k and v can go in at a slot
-pub record CanRecord (a : Spot) (k v s : List ℕ) : Type 0 where
+-- the record of a pair with the value v can go in at a slot
+pub record CanRecord (a : Spot) (v s : List ℕ) : Type 0 where
   pub slot : a.slot ≤ a.count
   pub free : 32 * a.count + 32 ≤ length s
   pub few : length s ≤ 32768
-  pub key : length k ≤ 16
   pub value : length v ≤ 65536
 
--- a pair of k and v can go in before a slot
-pub record CanInsert (a : Spot) (k v s vs : List ℕ) : Type 0 where
+-- a pair with the value v can go in before a slot
+pub record CanInsert (a : Spot) (v s vs : List ℕ) : Type 0 where
   pub standing : Standing a.id a.count a.total s vs
   pub slot : a.slot ≤ a.count
   pub free : 32 * a.count + 32 ≤ length s
   pub fits : a.total + length v ≤ length vs
-  pub key : length k ≤ 16
 
 -- the pair at a slot can go out
 pub record CanRemove (a : Spot) (s vs : List ℕ) : Type 0 where
   pub standing : Standing a.id a.count a.total s vs
   pub slot : a.slot < a.count
 
--- and then one of k and v in
-pub record CanReplace (a : Spot) (k v s vs : List ℕ) : Type 0 where
+-- and then one with the value v in
+pub record CanReplace (a : Spot) (v s vs : List ℕ) : Type 0 where
   pub removes : CanRemove a s vs
   pub fits : a.total + length v ≤ length vs + value_length (drop (32 * a.slot) s)
-  pub key : length k ≤ 16

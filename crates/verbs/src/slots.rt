@@ -7,6 +7,7 @@ ghost use Rattle.store.specs.Records.{pairs_in};
 ghost use Rattle.store.specs.Parts.{Holds, inserted, erased};
 ghost use Rattle.verbs.specs.Verbs.{record_in, record_out, place_for, CanRecord, CanInsert, CanRemove, CanReplace};
 
+use keys::orders::ShortKey;
 use octets::runs::{clear, copy_at, slide};
 use store::records::{Record, raise_places, write_record};
 
@@ -29,7 +30,7 @@ fn remove_value(values: &mut [u8], at: usize, k: usize, n: usize)
 }
 
 // A slot of a namespace, by the numbers that a verb there goes by: the namespace's id, how many pairs it holds, and the sum of
-// their value lengths.
+// their value lengths. What is put in may stand behind the last pair, what is taken out may not, so that neither bound is the type's.
 #[derive(Clone, Copy)]
 pub struct Spot {
     pub id: u32,
@@ -40,10 +41,10 @@ pub struct Spot {
 
 impl Spot {
     // A record put in, and the places behind it raised by its value's length.
-    fn insert_record(self, records: &mut [u8], place: u32, key: &[u8], value: &[u8])
-        requires { CanRecord self key.now value.now records.old }
+    fn insert_record(self, records: &mut [u8], place: u32, key: ShortKey, value: &[u8])
+        requires { CanRecord self value.now records.old }
         ensures { records.new
-            ≡ record_in self.id place (pair key.now value.now) self.slot (self.count - self.slot) records.old }
+            ≡ record_in self.id place (pair key.entry.bytes.now value.now) self.slot (self.count - self.slot) records.old }
     {
         let at = 32 * self.slot as usize;
         slide(records, at, 32 * (self.count - self.slot) as usize, at + 32);
@@ -52,6 +53,7 @@ impl Spot {
     }
 
     // The record taken out, after a number is added to the places behind it.
+    #[tactic(auto, unfolding(crate::specs::Verbs::record_out))]
     fn remove_record(self, records: &mut [u8], by: u32)
         requires { (self.slot < self.count) × (32 * self.count ≤ length records.old) }
         ensures { records.new ≡ record_out by self.slot (self.count - (self.slot + 1)) records.old }
@@ -67,6 +69,7 @@ impl Spot {
     }
 
     // Where the value begins or, behind the last slot, would.
+    #[tactic(auto, unfolding(crate::specs::Verbs::place_for))]
     fn place(self, records: &[u8]) -> u32
         requires { 32 * self.count ≤ length records.now }
         ensures { result ≡ place_for records.now self }
@@ -78,10 +81,11 @@ impl Spot {
     }
 
     // A pair put in before the one at the slot.
-    pub fn insert(self, records: &mut [u8], values: &mut [u8], key: &[u8], value: &[u8])
-        requires { CanInsert self key.now value.now records.old values.old }
+    #[tactic(auto, using(crate::proofs::slots::Images::insert_bounds, crate::proofs::slots::Images::insert_image))]
+    pub fn insert(self, records: &mut [u8], values: &mut [u8], key: ShortKey, value: &[u8])
+        requires { CanInsert self value.now records.old values.old }
         ensures { Holds self.id (length records.old) (length values.old)
-            (inserted self.slot (pair key.now value.now) (pairs_in self.count records.old values.old))
+            (inserted self.slot (pair key.entry.bytes.now value.now) (pairs_in self.count records.old values.old))
             records.new values.new }
     {
         let place = self.place(records);
@@ -89,6 +93,7 @@ impl Spot {
         self.insert_record(records, place, key, value);
     }
 
+    #[tactic(auto, using(crate::proofs::slots::Images::remove_bounds, crate::proofs::slots::Images::remove_inside))]
     pub fn remove(self, records: &mut [u8], values: &mut [u8])
         requires { CanRemove self records.old values.old }
         ensures { Holds self.id (length records.old) (length values.old)
@@ -107,10 +112,11 @@ impl Spot {
     }
 
     // The pair at the slot taken out, and another put in there.
-    pub fn replace(self, records: &mut [u8], values: &mut [u8], key: &[u8], value: &[u8])
-        requires { CanReplace self key.now value.now records.old values.old }
+    #[tactic(auto, using(crate::proofs::slots::Images::remove_bounds, crate::proofs::slots::Images::remove_inside))]
+    pub fn replace(self, records: &mut [u8], values: &mut [u8], key: ShortKey, value: &[u8])
+        requires { CanReplace self value.now records.old values.old }
         ensures { Holds self.id (length records.old) (length values.old)
-            (inserted self.slot (pair key.now value.now)
+            (inserted self.slot (pair key.entry.bytes.now value.now)
             (erased self.slot (pairs_in self.count records.old values.old)))
             records.new values.new }
     {

@@ -1,5 +1,6 @@
--- The puts that make a key of two halves, and an entry; a command that was written is read back. Assumes nothing.
+-- The puts that make a key of two halves, and an entry; a command that was written is read back; an opcode's byte is known. Assumes nothing.
 use mathlib.Core.Path.{◌≡◌, refl, sym, subst, ◌∙◌}
+use mathlib.Core.Bool.{true}
 use mathlib.Core.List.{List, [], ◌∷◌, ◌++◌}
 use Prim.Native.Nat.{ℕ, ◌%◌, ◌^◌, ◌≤◌, ◌<◌}
 use native.Mathlib.Omega.{arith}
@@ -8,7 +9,9 @@ use Rattle.octets.specs.Octets.{part, put, zeros}
 use Rattle.octets.proofs.PartLaws.{each, part_each, length_part, part_whole, puts_whole}
 use Rattle.octets.proofs.NumberLaws.{number_bytes}
 use Rattle.wire.specs.declared.entries.Command.{Command}
-use Rattle.wire.specs.Entry.{read_command, front_of, dwords_of, write_command, stale}
+use Rattle.wire.specs.declared.entries.Opcode.{Opcode}
+use Rattle.wire.specs.declared.entries.Opcode.TheVariants.{Store, Retrieve, List as ListKeys, Delete, Exist}
+use Rattle.wire.specs.Entry.{read_command, front_of, dwords_of, write_command, stale, byte_of, known}
 
 pub key_puts : (e : List ℕ) → length e ≡ 64 → put 8 (part 56 8 e) (put 0 (part 8 8 e) (zeros 16)) ≡ part 8 8 e ++ part 56 8 e
 key_puts e h =
@@ -56,3 +59,10 @@ command_back c s =
 pub stale_back : (c : Command) → length c.key ≡ 16 → stale (read_command (write_command c)) ≡ stale c
 unfolding read_command write_command part
 stale_back c h = subst (λ (k : List ℕ). stale (read_command (write_command (at c k))) ≡ stale (at c k)) (sixteen c.key h) refl
+
+pub known_byte : (o : Opcode) → known (byte_of o) ≡ true
+known_byte Store = refl
+known_byte Retrieve = refl
+known_byte ListKeys = refl
+known_byte Delete = refl
+known_byte Exist = refl

@@ -1,10 +1,12 @@
-// The 16-byte completion. Shifts and masks join the parts of its last word and take it apart.
-ghost use Rattle.std.specs.Prelude.{◌≡◌, ◌<◌};
-ghost use Rattle.wire.specs.Completion.{word, phase_in, status_in, kind_in, write_completion, read_completion, completed};
+// The 16-byte completion. Shifts and masks join the parts of its last word and take it apart, as document 01 wants to read it.
+ghost use Rattle.std.specs.Prelude.{◌≡◌, ◌/◌, ◌%◌, ◌^◌, ◌<◌, ◌≤◌};
+ghost use Rattle.wire.specs.Completion.{word, write_completion, read_completion, completed};
 
 use octets::words;
 
-// head and queue are those of the submission queue; kind is the status code type, `type` being a word of the language.
+// head and queue are those of the submission queue; kind is the status code type, `type` being a word of the language. Phase, status
+// and kind are numbers and no enums: a host reads what any device wrote, and `read_completion` in `specs/Completion.antt` takes whatever bits stand
+// there.
 #[derive(Clone, Copy)]
 pub struct Completion {
     pub dword0: u32,
@@ -16,7 +18,7 @@ pub struct Completion {
     pub kind: u8,
 }
 
-// What the caller gives for a completion.
+// What the caller gives for a completion, but for the slice: a struct that holds a `&mut` tells its caller's proof less.
 #[derive(Clone, Copy)]
 pub struct Post {
     pub head: u16,
@@ -25,6 +27,7 @@ pub struct Post {
 }
 
 impl Post {
+    // The status comes as its byte: which there are, the crate `refusals` says, and this one goes without it.
     pub fn completion(self, cid: u16, status: u8, dword0: u32) -> Completion
         ensures { result ≡ completed self cid status dword0 }
     {
@@ -45,25 +48,15 @@ fn pack(c: Completion) -> u16
     requires { c.kind < 8 }
     ensures { result ≡ word c }
 {
-    (c.phase as u16 & 1) | ((c.status as u16) << 1) | ((c.kind as u16) << 9)
+    u16::from(c.phase & 1) | (u16::from(c.status) << 1) | (u16::from(c.kind) << 9)
 }
 
-fn phase_of(w: u16) -> u8
-    ensures { result ≡ phase_in w }
+// One part of the word, by its first bit and how many it has.
+fn bits<const FIRST: u32, const WIDTH: u32>(w: u16) -> u8
+    requires { (FIRST < 16) × (WIDTH ≤ 8) }
+    ensures { result ≡ w / 2 ^ FIRST % 2 ^ WIDTH }
 {
-    (w & 1) as u8
-}
-
-fn status_of(w: u16) -> u8
-    ensures { result ≡ status_in w }
-{
-    ((w >> 1) & 255) as u8
-}
-
-fn kind_of(w: u16) -> u8
-    ensures { result ≡ kind_in w }
-{
-    ((w >> 9) & 7) as u8
+    ((w >> FIRST) & ((1 << WIDTH) - 1)) as u8
 }
 
 pub fn write_completion(completion: &mut [u8; 16], c: Completion)
@@ -88,8 +81,8 @@ pub fn read_completion(completion: &[u8; 16]) -> Completion
         head: words::read16(completion, 8),
         queue: words::read16(completion, 10),
         cid: words::read16(completion, 12),
-        phase: phase_of(word),
-        status: status_of(word),
-        kind: kind_of(word),
+        phase: bits::<0, 1>(word),
+        status: bits::<1, 8>(word),
+        kind: bits::<9, 3>(word),
     }
 }

@@ -5,7 +5,7 @@ ghost use Rattle.wire.specs.Entry.{byte_of, Names, read_command, write_command, 
 
 use octets::{runs, words};
 
-#[derive(Clone, Copy, PartialEq, Eq)]
+#[derive(Clone, Copy)]
 pub enum Opcode {
     Store = 0x01,
     Retrieve = 0x02,
@@ -15,7 +15,7 @@ pub enum Opcode {
 }
 
 // The byte is no opcode's.
-#[derive(Clone, Copy, PartialEq, Eq)]
+#[derive(Clone, Copy)]
 pub struct UnknownOpcode;
 
 impl TryFrom<u8> for Opcode {
@@ -35,7 +35,8 @@ impl TryFrom<u8> for Opcode {
     }
 }
 
-// What an entry says; the key is the first `len` of its sixteen bytes, amount is Dword 10. The opcode is the entry's byte, known or not.
+// What an entry says; the key is the first `len` of its sixteen bytes, amount is Dword 10. Opcode and options are the entry's bytes, known or not.
+// Key and length stand side by side, here and up to `Found` of `store`: document 01 names this form, and `key_of` and `stale` read both.
 #[derive(Clone, Copy)]
 pub struct Command {
     pub opcode: u8,
@@ -49,6 +50,7 @@ pub struct Command {
 }
 
 impl Command {
+    // By the byte, which is one test: `try_from` would tell all five apart.
     pub fn is(self, opcode: Opcode) -> bool
         ensures { result ≡ eqb self.opcode (byte_of opcode) }
     {
@@ -60,7 +62,7 @@ pub fn read_entry(entry: &[u8; 64]) -> Command
     ensures { result ≡ read_command entry.now }
 {
     let mut key = [0u8; 16];
-    runs::copy(&entry[8..16], &mut key);
+    runs::copy_at(&entry[8..16], &mut key, 0);
     runs::copy_at(&entry[56..64], &mut key, 8);
     Command {
         opcode: entry[0],
@@ -96,10 +98,9 @@ fn write_dwords(entry: &mut [u8; 64], c: Command)
 pub fn write_entry(entry: &mut [u8; 64], c: Command)
     ensures { entry.new ≡ write_command c }
 {
-    let key = c.key;
     write_front(entry, c);
-    runs::copy_at(&key[0..8], entry, 8);
+    runs::copy_at(&c.key[0..8], entry, 8);
     runs::clear(entry, 16, 24);
     write_dwords(entry, c);
-    runs::copy_at(&key[8..16], entry, 56);
+    runs::copy_at(&c.key[8..16], entry, 56);
 }

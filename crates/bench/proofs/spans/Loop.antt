@@ -1,5 +1,5 @@
 -- The loop over a page's entries: what is left of them, behind those passed, gives the page's length. Assumes nothing.
-use mathlib.Core.Path.{◌≡◌, refl, ◌∙◌}
+use mathlib.Core.Path.{◌≡◌, ◌∙◌}
 use mathlib.Core.List.{List}
 use Prim.Native.Nat.{ℕ, suc, ◌+◌, ◌-◌, ◌≤◌, ◌<◌}
 use native.Mathlib.Nat.{add-zero, sub-zero, add_assoc}
@@ -33,19 +33,10 @@ module _ {p : List ℕ} {count i at : ℕ} (g : Spanned p count i at) where
   left : i < count → count - i ≡ suc (count - (i + 1))
   left h = omega arith
 
-  pub spanned_all : count ≤ i → at ≡ page_span p
-  spanned_all h =
-      let z : count - i ≡ 0 = omega arith in
-      rw (z, add-zero) at g.is
-
   pub spanned_past : {n size : ℕ} → n ≡ number (part at 2 p) → size ≡ entry_size n → i < count → length p - at < size → at ≡ page_span p
   spanned_past {n} {size} f e h k =
       let l : length (drop at p) < size = rw length-drop (omega arith) in
       rw (left h, here, ← f, ← e, lt-leb _ _ l, add-zero) at g.is
-
-  -- an entry has 4 bytes at least
-  pub spanned_short : i < count → length p - at < 4 → at ≡ page_span p
-  spanned_short h k = spanned_past {n = number (part at 2 p)} refl refl h (omega arith)
 
   pub spanned_more : {n size : ℕ} → n ≡ number (part at 2 p) → size ≡ entry_size n → i < count → size ≤ length p - at
       → Spanned p count (i + 1) (at + size)
@@ -56,3 +47,5 @@ module _ {p : List ℕ} {count i at : ℕ} (g : Spanned p count i at) where
         in_page = omega (arith, g.in_page);
         is = rw add_assoc (rw (left h, here, ← f, ← e, le-leb size (length (drop at p)) l, drop-drop) at g.is);
       }
+
+pub ruleset page_laws = (span_none, spanned_none, spanned_past, spanned_more)

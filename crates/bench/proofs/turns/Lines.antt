@@ -19,32 +19,39 @@ use Rattle.bench.proofs.texts.Line.{length_line}
 counts : (n : ℕ) (xs : List ℕ) → n ≤ length xs → IsPrefixLen n xs
 counts n xs h = (h, sym (length-take-le n xs h))
 
--- what `print` ensures, where it answers n and leaves u of the text t
-abbrev pub Prints : Command → List ℕ → List ℕ → List ℕ → ℕ → List ℕ → Type 0
-Prints c k b t n u = (u ≡ put 0 (printed c k b) t) × ((n ≡ length (printed c k b)) × IsPrefixLen n u)
-
-module _ (c : Command) (k b t : List ℕ) {u : List ℕ} {r : Completion} (e : r ≡ read_completion k) (f : u ≡ put 0 (line k) t) (m : length k ≡ 16)
-    (o : length t ≡ 8226) where
+module _ (c : Command) (k b : List ℕ) {r : Completion} (e : r ≡ read_completion k) (m : length k ≡ 16) where
   whole : length (line k) ≡ 33
   whole = length_line k ∙ rw m
 
-  same : length u ≡ 8226
-  same = rw f (length_put 0 (line k) t (omega (arith, whole)) ∙ o)
+  module _ (g : gives c.opcode r.status ≡ false) where
+    one_line : printed c k b ≡ line k
+    unfolding printed
+    one_line = rw (← e, g, append-nil)
 
-  pub prints_one : gives c.opcode r.status ≡ false → Prints c k b t 33 u
-  unfolding printed
-  prints_one g =
-      let p : printed c k b ≡ line k = rw (← e, g, append-nil) in
-      rw p (f, (sym whole, counts 33 u (omega (arith, same))))
+    pub one_length : 33 ≡ length (printed c k b)
+    one_length = rw one_line (sym whole)
 
-  pub prints_two : {n : ℕ} {w : List ℕ} → gives c.opcode r.status ≡ true → n ≡ given_of c r.dword0 b → n ≤ length b
-      → w ≡ put 33 (line (take n b)) u → length b ≤ 4096 → Prints c k b t (34 + 2 * n) w
-  unfolding printed
-  prints_two {n} {w} g i h q l =
-      let p : printed c k b ≡ line k ++ line (take n b) = rw (← e, g, ← i) in
-      let y : length (line (take n b)) ≡ 2 * n + 1 = length_line (take n b) ∙ rw (length-take-le n b h) in
-      let z : length w ≡ 8226 = rw q (length_put 33 (line (take n b)) u (omega (arith, same)) ∙ same) in
-      rw p (
-        rw (q, f) (rw whole at (put_next 0 (line k) (line (take n b)) t (omega (arith, whole)))),
-        (rw length-append (omega (arith, whole)), counts (34 + 2 * n) w (omega arith)),
-      )
+    pub one_text : (t : List ℕ) {u : List ℕ} → u ≡ put 0 (line k) t → u ≡ put 0 (printed c k b) t
+    one_text t f = rw one_line f
+
+    pub one_prefix : (t : List ℕ) {u : List ℕ} → u ≡ put 0 (line k) t → 34 + 2 * length b ≤ length t → IsPrefixLen 33 u
+    one_prefix t {u} f o =
+        let l : length u ≡ length t = rw f (length_put 0 (line k) t (omega (arith, whole))) in
+        counts 33 u (omega arith)
+
+  module _ {n : ℕ} (g : gives c.opcode r.status ≡ true) (i : n ≡ given_of c r.dword0 b) (h : n ≤ length b) where
+    two_lines : printed c k b ≡ line k ++ line (take n b)
+    unfolding printed
+    two_lines = rw (← e, g, ← i)
+
+    second : length (line (take n b)) ≡ 2 * n + 1
+    second = length_line (take n b) ∙ rw (length-take-le n b h)
+
+    pub two_length : 34 + 2 * n ≡ length (printed c k b)
+    two_length = rw (two_lines, length-append) (omega (arith, whole, second))
+
+    pub two_text : (t : List ℕ) {u w : List ℕ} → u ≡ put 0 (line k) t → w ≡ put 33 (line (take n b)) u → 34 + 2 * length b ≤ length t
+        → w ≡ put 0 (printed c k b) t
+    two_text t f q o = rw (two_lines, q, f) (rw whole at (put_next 0 (line k) (line (take n b)) t (omega (arith, whole, second))))
+
+pub ruleset print_laws = (one_length, one_text, one_prefix, two_length, two_text)

@@ -5,7 +5,7 @@ use mathlib.Core.Bool.{true, false}
 use mathlib.Core.List.{List, ◌∷◌, ◌++◌}
 use Prim.Native.Nat.{ℕ, ◌+◌, ◌-◌, ◌*◌, ◌≤◌, ◌<◌}
 use native.Mathlib.Omega.{arith}
-use lib.ListN.{length, length-take}
+use lib.ListN.{length, take, length-take}
 use borrow.Rule.Slice.PartMut.{put_mid}
 use Rattle.octets.specs.Octets.{part, put, bytes}
 use Rattle.store.specs.declared.namespaces.Label.{Label}
@@ -117,9 +117,6 @@ module _ {k : Checked} {f : Found} {x d v : List ℕ} (c : CanPut k f x d v) whe
   limits : Within (with_pairs (at k.label.id (namespaces_of (memory d v))) (insert (found_key f) x m))
   limits = within_true _ c.within
 
-  key_short : length (found_key f) ≤ 16
-  key_short = omega (arith, length-take f.len f.key, c.looked.short)
-
   -- the parts have room for the map with the pair
   room_left : length (values (insert (found_key f) x m)) ≤ length (values_at k v)
   room_left =
@@ -127,13 +124,13 @@ module _ {k : Checked} {f : Found} {x d v : List ℕ} (c : CanPut k f x d v) whe
       omega (arith, size, values_used (insert (found_key f) x m), limits.room, values_long (part_is c.legal).holds)
 
   -- the used room with the pair
-  pub used_is : {u : ℕ} → u ≡ k.label.used - room_at k f d → u + f.len + length x ≡ used (insert (found_key f) x m)
-  used_is z =
-      let n = length-take f.len f.key in
-      omega (arith, z ∙ sum_without c.legal c.looked, insert_used (found_key f) x m, n, c.looked)
+  used_is : {u n : ℕ} → u ≡ k.label.used - room_at k f d → n ≡ f.len → u + n + length x ≡ used (insert (found_key f) x m)
+  used_is z e =
+      let l = length-take f.len f.key in
+      omega (arith, z ∙ sum_without c.legal c.looked, insert_used (found_key f) x m, l, c.looked)
 
-  pub used_small : {u : ℕ} → u ≡ k.label.used - room_at k f d → u + f.len + length x ≤ 65536
-  used_small z = omega (arith, used_is z, limits.room, limits.permits.size_high)
+  pub used_small : {u n : ℕ} → u ≡ k.label.used - room_at k f d → n ≡ f.len → u + n + length x ≤ 65536
+  used_small z e = omega (arith, used_is z e, limits.room, limits.permits.size_high)
 
   total_is : k.total ≡ length (values m)
   total_is = rw (pairs_at_law c.legal) at (standing_in c.legal).total
@@ -152,21 +149,21 @@ module _ {k : Checked} {f : Found} {x d v : List ℕ} (c : CanPut k f x d v) whe
     fewer : (length rest ≡ length m - 1) × (f.slot ≤ length rest)
     fewer = let l = length_erased f.slot m (inside erases) in (l, omega (arith, inside erases))
 
-    pub can_replace : CanReplace (spot_of k f) (found_key f) x (records_at k d) (values_at k v)
+    pub can_replace : CanReplace (spot_of k f) x (records_at k d) (values_at k v)
     can_replace =
         let old = value_length_at (part_is c.legal).holds f.slot (inside erases) in
         let sum = values_erased f.slot m (inside erases) in
         let new = values_inserted f.slot p rest fewer.1 in
         let room = rw again at room_left in
-        record { removes = can_remove erases; fits = omega (arith, total_is); key = key_short }
+        record { removes = can_remove erases; fits = omega (arith, total_is) }
 
-    pub replaced_image : {d' r w : List ℕ} {u : ℕ} → u ≡ used (insert (found_key f) x m)
-        → Left k d v (inserted f.slot p (erased f.slot (pairs_in k.label.count (records_at k d) (values_at k v)))) r w
-        → d' ≡ put (k.half + 12) (bytes 4 k.label.count ++ bytes 4 u) (directory_with k d r)
+    pub replaced_image : {d' r w : List ℕ} {u n l : ℕ} → u ≡ k.label.used - room_at k f d → n ≡ f.len → l ≡ f.len
+        → Left k d v (inserted f.slot (pair (take l f.key) x) (erased f.slot (pairs_in k.label.count (records_at k d) (values_at k v)))) r w
+        → d' ≡ put (k.half + 12) (bytes 4 k.label.count ++ bytes 4 (u + n + length x)) (directory_with k d r)
         → memory d' (values_with k v w) ≡ image_with k.label.id (insert (found_key f) x) (memory d v)
-    replaced_image {u = u} z q e =
-        new_image c.legal (λ (l : List Pair). inserted f.slot p (erased f.slot l)) q again limits _ u e
-        (omega (arith, ap length again, length_inserted f.slot p rest fewer.1, fewer, inside erases, count_is c.legal)) z
+    replaced_image z i j q e =
+        new_image c.legal (λ (l : List Pair). inserted f.slot p (erased f.slot l)) (rw j at q) again limits _ _ e
+        (omega (arith, ap length again, length_inserted f.slot p rest fewer.1, fewer, inside erases, count_is c.legal)) (used_is z i)
 
   -- a new key
   module _ (h : f.held ≡ false) where
@@ -176,7 +173,7 @@ module _ {k : Checked} {f : Found} {x d v : List ℕ} (c : CanPut k f x d v) whe
     more : length (insert (found_key f) x m) ≡ k.label.count + 1
     more = ap length added ∙ omega (arith, length_inserted f.slot p m (slot_le m c.looked), count_is c.legal)
 
-    pub can_insert : CanInsert (spot_of k f) (found_key f) x (records_at k d) (values_at k v)
+    pub can_insert : CanInsert (spot_of k f) x (records_at k d) (values_at k v)
     can_insert =
         let g = c.legal in
         let i = ap (λ (h : Label). slots h.index) (label_is g) in
@@ -187,11 +184,12 @@ module _ {k : Checked} {f : Found} {x d v : List ℕ} (c : CanPut k f x d v) whe
           slot = omega (arith, slot_le m c.looked, count_is g);
           free = omega (arith, records_long (part_is g).holds, limits.count, more);
           fits = omega (arith, total_is);
-          key = key_short;
         }
 
-    pub inserted_image : {d' r w : List ℕ} {u : ℕ} → u ≡ used (insert (found_key f) x m)
-        → Left k d v (inserted f.slot p (pairs_in k.label.count (records_at k d) (values_at k v))) r w
-        → d' ≡ put (k.half + 12) (bytes 4 (k.label.count + 1) ++ bytes 4 u) (directory_with k d r)
+    pub inserted_image : {d' r w : List ℕ} {u n l : ℕ} → u ≡ k.label.used - room_at k f d → n ≡ f.len → l ≡ f.len
+        → Left k d v (inserted f.slot (pair (take l f.key) x) (pairs_in k.label.count (records_at k d) (values_at k v))) r w
+        → d' ≡ put (k.half + 12) (bytes 4 (k.label.count + 1) ++ bytes 4 (u + n + length x)) (directory_with k d r)
         → memory d' (values_with k v w) ≡ image_with k.label.id (insert (found_key f) x) (memory d v)
-    inserted_image {u = u} z q e = new_image c.legal (inserted f.slot p) q added limits _ u e (sym more) z
+    inserted_image z i j q e = new_image c.legal (inserted f.slot p) (rw j at q) added limits _ _ e (sym more) (used_is z i)
+
+pub ruleset put_laws = (used_small, can_replace, can_insert)

@@ -3,7 +3,7 @@ use mathlib.Core.Path.{◌≡◌, sym, ap, ◌∙◌}
 use mathlib.Core.Bool.{Bool, true, false, ◌||◌}
 use mathlib.Core.List.{List, ◌++◌}
 use Rattle.std.specs.Prelude.{Some, None, Result, Ok, Err}
-use Rattle.std.specs.Result.{result_ok, IfOk}
+use Rattle.std.specs.Result.{result_ok}
 use Prim.Native.Nat.{ℕ, ◌+◌, ◌-◌, ◌*◌, ◌≤◌}
 use native.Mathlib.Omega.{arith}
 use lib.Dec.{ltb}
@@ -96,12 +96,19 @@ module _ {half start base : ℕ} {d v : List ℕ} (c : CanSee half start base d 
   unfolding half_checked
   refuse n = rw (refuted (all tests) (λ e. n (all_true tests e)))
 
-  module _ {h : Label} (eh : h ≡ label_in (take (half + 32 - half) (drop half d))) where
-    label_is : h ≡ label_at half d
+  module _ {y : Bool} (ey : y ≡ all_zero (take (half + 32 - (half + 20)) (drop (half + 20) d))) where
+    zeros_are : y ≡ all_zero (part (half + 20) 12 d)
     unfolding part
-    label_is =
-        let n : half + 32 - half ≡ 32 = omega arith in
-        rw n at eh
+    zeros_are =
+        let n : half + 32 - (half + 20) ≡ 12 = omega arith in
+        rw n at ey
+
+    pub check_zeros : y ≡ false → None ≡ half_checked half start base (memory d v)
+    check_zeros z = refuse (λ a. contrary (sym z ∙ zeros_are ∙ a.0))
+
+  module _ {x : List ℕ} (ex : x ≡ part half 32 d) {h : Label} (eh : h ≡ label_in x) where
+    label_is : h ≡ label_at half d
+    label_is = eh ∙ ap label_in ex
 
     -- the parts that h names
     abbrev records : List ℕ
@@ -118,14 +125,6 @@ module _ {half start base : ℕ} {d v : List ℕ} (c : CanSee half start base d 
         → None ≡ half_checked half start base (memory d v)
     check_refused (Ok f) e q = absurd cc
     check_refused (Err r) e q = refuse (λ t. eqb-false _ 0 (number_counts r) (e ∙ no_number h.index h.id h.size (tested t).within.permits))
-
-    -- the facts of a format that is given
-    pub granted : (r : Result Format Refusal) → number_in r ≡ first_of (permit_steps h.index h.id h.size) → IfOk r (λ f. f ≡ format_of h.index)
-        → {f : Format} → Some f ≡ result_ok r → (f ≡ format_of h.index) × (0 ≡ first_of (permit_steps h.index h.id h.size))
-    granted (Ok g) n i {f} q =
-        let e : f ≡ g = cc in
-        (e ∙ i, n)
-    granted (Err r) n i q = absurd cc
 
     module _ {f : Format} (eq : f ≡ format_of h.index) where
       -- a slice is too short
@@ -196,24 +195,14 @@ module _ {half start base : ℕ} {d v : List ℕ} (c : CanSee half start base d 
               let u : used (pairs_in h.count records values) ≡ h.used = rw label_is (eqb-true _ _ a.1.1.0) in
               w (ap (λ (x : Sums). x.used) legal_sums.1 ∙ u))
 
-          module _ {y : Bool} (ey : y ≡ all_zero (take (half + 32 - (half + 20)) (drop (half + 20) d))) where
-            zeros_are : y ≡ all_zero (part (half + 20) 12 d)
-            unfolding part
-            zeros_are =
-                let n : half + 32 - (half + 20) ≡ 12 = omega arith in
-                rw n at ey
+          pub check_passed : {y : Bool} → y ≡ all_zero (take (half + 32 - (half + 20)) (drop (half + 20) d)) → y ≡ true → t.used ≡ h.used
+              → Some (record { label = h; format = f; half = half; start = start; end = end; base = base; total = t.total })
+              ≡ half_checked half start base (memory d v)
+          unfolding half_checked namespace_at
+          check_passed ey z u =
+              let l = legal_sums in
+              let k : used (pairs_in h.count records values) ≡ h.used = sym (ap (λ (x : Sums). x.used) l.1) ∙ u in
+              let a : All tests = (sym (zeros_are ey) ∙ z, (rw (← label_is) l.0, (rw (← label_is) (eq-eqb _ _ k), tt))) in
+              rw (true_all tests a, ← label_is, l.1, eq, length_pairs h.count records values, k)
 
-            pub check_zeros : y ≡ false → None ≡ half_checked half start base (memory d v)
-            check_zeros z = refuse (λ a. contrary (sym z ∙ zeros_are ∙ a.0))
-
-            pub check_passed : y ≡ true → t.used ≡ h.used
-                → Some (record { label = h; format = f; half = half; start = start; end = end; base = base; total = t.total })
-                ≡ half_checked half start base (memory d v)
-            unfolding half_checked namespace_at
-            check_passed z u =
-                let l = legal_sums in
-                let k : used (pairs_in h.count records values) ≡ h.used = sym (ap (λ (x : Sums). x.used) l.1) ∙ u in
-                let a : All tests = (sym zeros_are ∙ z, (rw (← label_is) l.0, (rw (← label_is) (eq-eqb _ _ k), tt))) in
-                rw (true_all tests a, ← label_is, l.1, eq, length_pairs h.count records values, k)
-
-pub ruleset half_laws = (check_short, check_unread, check_sums)
+pub ruleset half_laws = (check_zeros, check_short, check_unread, check_sums, check_passed)

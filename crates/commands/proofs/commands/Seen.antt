@@ -2,12 +2,16 @@
 use mathlib.Core.Path.{◌≡◌, refl, sym, ap, ap₂, ◌∙◌}
 use mathlib.Core.Bool.{true, false}
 use mathlib.Core.List.{List}
-use Rattle.std.specs.Prelude.{Some, None}
+use Rattle.std.specs.Prelude.{Some, None, Result}
+use Rattle.std.specs.Result.{IsErrAnd, result_unwrap_or}
+use Rattle.std.proofs.lemmas.Result.{err_from_is_err_and}
+use Rattle.refusals.specs.declared.statuses.Status.{Status}
+use Rattle.refusals.specs.Refusals.{code_of, code_in}
+use Rattle.refusals.proofs.Counted.{code_counts}
 use Prim.Native.Nat.{ℕ}
 use lib.Dec.{eqb}
 use lib.ListN.{length}
 use borrow.Author.Tests.{eqb-true, eqb-false}
-use Rattle.keys.specs.Keys.{Padded}
 use Rattle.octets.specs.Tests.{first_of}
 use Rattle.octets.proofs.TestLaws.{none_holds, none_first, some_first, known, holds, fails}
 use Rattle.wire.specs.declared.entries.Command.{Command}
@@ -24,7 +28,7 @@ use Rattle.memory.specs.Namespaces.{at}
 use Rattle.memory.specs.Memory.{memory, namespaces_of, legal}
 use Rattle.checking.specs.Checks.{checked}
 use Rattle.memory.proofs.NameLaws.{at_id}
-use Rattle.maps.specs.Asks.{keys_at, room_at, Looked, CanLook, CanWeigh, Legal}
+use Rattle.maps.specs.Asks.{keys_at, room_at, Looked, CanWeigh, Legal}
 use Rattle.maps.proofs.LegalLaws.{illegal_checked, legal_checked, unnamed, label_is, format_is}
 use Rattle.maps.proofs.RoomLaws.{looked_in, room_is, can_weigh}
 use Rattle.rules.specs.declared.steps.View.{View}
@@ -78,18 +82,25 @@ module _ (c : Command) (b d v : List ℕ) where
       let z : eqb (status_of (legal (memory d v)) s c (length b)) 0 ≡ false = rw e q in
       rw (refused (legal (memory d v)) s c b z, z, e)
 
+  -- and so is one that comes in a result
+  refused_in : (t : Status) (r : Result ℕ Status) → IsErrAnd r (λ x. x ≡ t) → response (code_of t) 0 b d v ≡ respond c b (memory d v)
+      → response (code_in r) (result_unwrap_or r 0) b d v ≡ respond c b (memory d v)
+  refused_in t r h e =
+      let p = err_from_is_err_and r h in
+      rw (p.1, p.2) e
+
   -- ---- steps a to h
 
   pub refused_illegal : None ≡ checked c.nsid (memory d v) → response 6 0 b d v ≡ respond c b (memory d v)
   unfolding status_of steps
   refused_illegal e = refusing (rw (illegal_checked c.nsid (memory d v) e)) refl
 
-  module _ {k : Checked} (ek : Some k ≡ checked c.nsid (memory d v)) {st : ℕ} (e : st ≡ first_of (steps_to_h (view k (length b)) c)) where
+  module _ {k : Checked} (ek : Some k ≡ checked c.nsid (memory d v)) where
     g : Legal k d v
     g = legal_checked c.nsid d v ek
 
-    early_is : st ≡ first_of (steps_to_h (view_of (legal (memory d v)) s (length b)) c)
-    early_is =
+    early_is : {st : ℕ} → st ≡ first_of (steps_to_h (view k (length b)) c) → st ≡ first_of (steps_to_h (view_of (legal (memory d v)) s (length b)) c)
+    early_is e =
         elim (known (eqb c.nsid k.label.id)) [
           | holds i ↦
               let same = ap (λ (n : ℕ). at n (namespaces_of (memory d v))) (eqb-true c.nsid k.label.id i) in
@@ -100,19 +111,22 @@ module _ (c : Command) (b d v : List ℕ) where
               e ∙ other_view (view k (length b)) (view_of (legal (memory d v)) s (length b)) c (sym g.legal) i other
         ]
 
-    pub refused_early : eqb st 0 ≡ false → response st 0 b d v ≡ respond c b (memory d v)
+    pub refused_early : (t : Status) → code_of t ≡ first_of (steps_to_h (view k (length b)) c) → (r : Result ℕ Status) → IsErrAnd r (λ x. x ≡ t)
+        → response (code_in r) (result_unwrap_or r 0) b d v ≡ respond c b (memory d v)
     unfolding status_of steps
-    refused_early q =
+    refused_early t e r h =
         let x = view_of (legal (memory d v)) s (length b) in
-        refusing (some_first (steps_to_h x c) (steps_from_i (stock_of s (key_of c)) c) (rw early_is at (eqb-false st 0 q)) ∙ sym early_is) q
+        let q = code_counts t in
+        refused_in t r h
+        (refusing (some_first (steps_to_h x c) (steps_from_i (stock_of s (key_of c)) c) (rw (early_is e) at (eqb-false (code_of t) 0 q)) ∙ sym (early_is e)) q)
 
-    pub admitted : st ≡ 0 → Admitted c k (length b) d v
-    admitted q =
-        let p = passed_to_h (view k (length b)) c (none_holds (steps_to_h (view k (length b)) c) tt (sym e ∙ q)) in
+    pub admitted : 0 ≡ first_of (steps_to_h (view k (length b)) c) → Admitted c k (length b) d v
+    admitted e =
+        let p = passed_to_h (view k (length b)) c (none_holds (steps_to_h (view k (length b)) c) tt (sym e)) in
         record {
           legal = g;
           named = p.same;
-          early = rw (← ap (λ (n : ℕ). at n (namespaces_of (memory d v))) p.same) (rw g.legal at (sym early_is ∙ q));
+          early = rw (← ap (λ (n : ℕ). at n (namespaces_of (memory d v))) p.same) (rw g.legal at (sym (early_is e)));
         }
 
   -- ---- steps i and j
@@ -124,9 +138,6 @@ module _ (c : Command) (b d v : List ℕ) where
     early : PassedToH (view_of true its (length b)) c
     early = passed_to_h _ c (none_holds (steps_to_h (view_of true its (length b)) c) tt a.early)
 
-    pub looks : CanLook k d × Padded c.len c.key
-    looks = (a.legal.look, record { short = early.sixteen; padded = early.clear })
-
     module _ {f : Found} (l : length c.key ≡ 16) (ef : f ≡ found c.key c.len (keys_at k d)) where
       key_is : found_key f ≡ key_of c
       key_is = rw ef
@@ -137,18 +148,21 @@ module _ (c : Command) (b d v : List ℕ) where
       pub weighs : CanWeigh k f d
       weighs = can_weigh a.legal looked
 
-      module _ {old st : ℕ} (eo : old ≡ room_at k f d) (e : st ≡ first_of (steps_from_i (stock k f old) c)) where
-        status_is : status_of true its c (length b) ≡ st
+      module _ {old : ℕ} (eo : old ≡ room_at k f d) where
+        status_is : {st : ℕ} → st ≡ first_of (steps_from_i (stock k f old) c) → status_of true its c (length b) ≡ st
         unfolding status_of steps
-        status_is =
+        status_is e =
             let held : f.held ≡ present (key_of c) its.pairs = looked.held ∙ rw key_is (has_present (key_of c) its.pairs) in
             let room : old ≡ held_room (key_of c) its.pairs = eo ∙ room_is a.legal looked ∙ rw key_is in
             let x = view_of true its (length b) in
             none_first (steps_to_h x c) (steps_from_i (stock_of its (key_of c)) c) (none_holds (steps_to_h x c) tt a.early)
             ∙ sym (e ∙ stock_is a.legal c f old held room)
 
-        pub refused_late : eqb st 0 ≡ false → response st 0 b d v ≡ respond c b (memory d v)
-        refused_late q = refusing (rw (a.legal.legal, ap (λ (n : ℕ). at n (namespaces_of (memory d v))) a.named) status_is) q
+        pub refused_late : (t : Status) → code_of t ≡ first_of (steps_from_i (stock k f old) c) → (r : Result ℕ Status) → IsErrAnd r (λ x. x ≡ t)
+            → response (code_in r) (result_unwrap_or r 0) b d v ≡ respond c b (memory d v)
+        refused_late t e r h =
+            let same = ap (λ (n : ℕ). at n (namespaces_of (memory d v))) a.named in
+            refused_in t r h (refusing (rw (a.legal.legal, same) (status_is e)) (code_counts t))
 
-        pub ruled : st ≡ 0 → Ruled c k f (length b) d v
-        ruled q = record { legal = a.legal; named = a.named; looked = looked; key = key_is; given = l; status = status_is ∙ q }
+        pub ruled : 0 ≡ first_of (steps_from_i (stock k f old) c) → Ruled c k f (length b) d v
+        ruled e = record { legal = a.legal; named = a.named; looked = looked; key = key_is; given = l; status = status_is e }

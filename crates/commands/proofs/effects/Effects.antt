@@ -10,7 +10,7 @@ use Rattle.octets.proofs.TestLaws.{contrary}
 use Rattle.wire.specs.declared.entries.Command.{Command}
 use Rattle.wire.specs.declared.entries.Opcode.{Opcode}
 use Rattle.wire.specs.declared.entries.UnknownOpcode.{UnknownOpcode}
-use Rattle.wire.specs.Entry.{Names, key_of}
+use Rattle.wire.specs.Entry.{Names, byte_of, key_of}
 use Rattle.sheets.specs.Page.{page, shown}
 use Rattle.store.specs.declared.finds.Found.{Found}
 use Rattle.store.specs.Maps.{Pair, value_of, insert, erase}
@@ -73,55 +73,66 @@ module _ {c : Command} {k : Checked} {f : Found} (b : List ℕ) {d v : List ℕ}
   is_known (Ok o) n = refl
   is_known (Err e) n = absurd (contrary (sym n ∙ p.early.opcode))
 
-  -- ---- Store
-
-  module _ (op : c.opcode ≡ 0x01) where
-    pub value_lent : c.amount ≤ length b
-    value_lent = p.early.lent (rw op)
-
-    pub can_put : CanPut k f (take c.amount b) d v
-    can_put =
-        record {
-          legal = r.legal;
-          looked = r.looked;
-          within = rw r.key (true_within _ (store_within s c b (at_one r.legal) r.given (rw op) p));
-        }
-
-    pub stored_is : {d' v' : List ℕ} → memory d' v' ≡ image_with k.label.id (insert (found_key f) (take c.amount b)) (memory d v)
-        → response 0 0 b d' v' ≡ meant
-    stored_is e = made (rw op) (rw op) (rw op (rw r.key at e))
-
-  -- ---- a key that is held: Retrieve, Delete
-
+  -- a key that is held can go
   can_find : (stock_of s (key_of c)).held ≡ true → CanErase k f d v
   can_find h = record { legal = r.legal; looked = r.looked; held = r.looked.held ∙ rw r.key (has_present (key_of c) m) ∙ h }
 
-  pub can_erase : c.opcode ≡ 0x10 → CanErase k f d v
-  can_erase op = can_find (p.held (rw op))
+  -- o is the opcode that the command's byte names
+  module _ {o : Result Opcode UnknownOpcode} (n : Names c.opcode o) where
+    byte : {x : Opcode} → o ≡ Ok x → c.opcode ≡ byte_of x
+    byte e = sym (rw e at n)
 
-  pub erased_is : {d' v' : List ℕ} → c.opcode ≡ 0x10 → memory d' v' ≡ image_with k.label.id (erase (found_key f)) (memory d v) → response 0 0 b d' v' ≡ meant
-  erased_is op e = made (rw op) (rw op) (rw op (rw r.key at e))
+    -- ---- Store
 
-  pub can_hand : c.opcode ≡ 0x02 → CanHand k f c.amount d v b
-  can_hand op = record { erases = can_find (p.held (rw op)); lent = p.early.lent (rw op) }
+    module _ (e : o ≡ Ok Opcode.Store) where
+      pub value_lent : c.amount ≤ length b
+      value_lent = p.early.lent (rw (byte e))
 
-  pub handed_is : {n : ℕ} {b' : List ℕ} → c.opcode ≡ 0x02
-      → (n ≡ length (value_of (found_key f) m)) × (b' ≡ put 0 (take c.amount (value_of (found_key f) m)) b) → response 0 n b' d v ≡ meant
-  handed_is op e =
-      let g = rw r.key at e in
-      made (rw op g.0) (rw op g.1) (kept (rw op))
+      pub can_put : CanPut k f (take c.amount b) d v
+      can_put =
+          record {
+            legal = r.legal;
+            looked = r.looked;
+            within = rw r.key (true_within _ (store_within s c b (at_one r.legal) r.given (rw (byte e)) p));
+          }
 
-  -- ---- List
+      pub stored_is : {d' v' : List ℕ} → memory d' v' ≡ image_with k.label.id (insert (found_key f) (take c.amount b)) (memory d v)
+          → response 0 0 b d' v' ≡ meant
+      stored_is q = made (rw (byte e)) (rw (byte e)) (rw (byte e) (rw r.key at q))
 
-  pub can_list : c.opcode ≡ 0x06 → CanList k f c.amount d b
-  can_list op =
-      let e = p.early in
-      record { look = r.legal.look; looked = rw (keys_are r.legal) r.looked; counted = e.counted (rw op); lent = e.lent (rw op) }
+    -- ---- Delete
 
-  pub listed_is : {b' : List ℕ} → c.opcode ≡ 0x06 → b' ≡ put 0 (page (shown c.amount (found_key f) (keys_at k d))) b → response 0 0 b' d v ≡ meant
-  listed_is op e = made (rw op) (rw op (rw (r.key, keys_are r.legal) at e)) (kept (rw op))
+    module _ (e : o ≡ Ok Opcode.Delete) where
+      pub can_erase : CanErase k f d v
+      can_erase = can_find (p.held (rw (byte e)))
 
-  -- ---- Exist
+      pub erased_is : {d' v' : List ℕ} → memory d' v' ≡ image_with k.label.id (erase (found_key f)) (memory d v) → response 0 0 b d' v' ≡ meant
+      erased_is q = made (rw (byte e)) (rw (byte e)) (rw (byte e) (rw r.key at q))
 
-  pub unchanged : c.opcode ≡ 0x14 → response 0 0 b d v ≡ meant
-  unchanged op = made (rw op) (rw op) (kept (rw op))
+    -- ---- Retrieve
+
+    module _ (e : o ≡ Ok Opcode.Retrieve) where
+      pub can_hand : CanHand k f c.amount d v b
+      can_hand = record { erases = can_find (p.held (rw (byte e))); lent = p.early.lent (rw (byte e)) }
+
+      pub handed_is : {n : ℕ} {b' : List ℕ}
+          → (n ≡ length (value_of (found_key f) m)) × (b' ≡ put 0 (take c.amount (value_of (found_key f) m)) b) → response 0 n b' d v ≡ meant
+      handed_is q =
+          let g = rw r.key at q in
+          made (rw (byte e) g.0) (rw (byte e) g.1) (kept (rw (byte e)))
+
+    -- ---- List
+
+    module _ (e : o ≡ Ok Opcode.List) where
+      pub can_list : CanList k f c.amount d b
+      can_list =
+          let q = p.early in
+          record { look = r.legal.look; looked = rw (keys_are r.legal) r.looked; counted = q.counted (rw (byte e)); lent = q.lent (rw (byte e)) }
+
+      pub listed_is : {b' : List ℕ} → b' ≡ put 0 (page (shown c.amount (found_key f) (keys_at k d))) b → response 0 0 b' d v ≡ meant
+      listed_is q = made (rw (byte e)) (rw (byte e) (rw (r.key, keys_are r.legal) at q)) (kept (rw (byte e)))
+
+    -- ---- Exist
+
+    pub unchanged : o ≡ Ok Opcode.Exist → response 0 0 b d v ≡ meant
+    unchanged e = made (rw (byte e)) (rw (byte e)) (kept (rw (byte e)))

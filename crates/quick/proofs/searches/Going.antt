@@ -47,3 +47,5 @@ module _ {o : ℕ → Ordering} {first count low left looked : ℕ} (g : Going o
         let f = search_greater (count - (looked + 1)) o low left h e in
         let l = rw (fuel, f) at g.looks in
         record { inside = omega (arith, g.inside); fuel = omega (arith, g.fuel); known = rw (fuel, f) at g.known; looks = omega arith }
+
+pub ruleset going_laws = (going_found, going_down, going_up)

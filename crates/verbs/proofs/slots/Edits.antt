@@ -1,5 +1,6 @@
 -- A pair put in between others, and taken out there: the records and the values. Assumes nothing.
-use Rattle.std.proofs.Common.{◌≡◌, ℕ, suc, ◌+◌, ◌-◌, ◌*◌, ◌%◌, ◌^◌, ◌<◌, ◌≤◌, List, [], ◌∷◌, ◌++◌, length, drop, sym, refl, ap, ◌∙◌, append_assoc, zero-add, arith, length-append, drop_at}
+use Rattle.std.proofs.Common.{◌≡◌, ℕ, suc, ◌+◌, ◌-◌, ◌*◌, ◌%◌, ◌^◌, ◌<◌, ◌≤◌, List, [], ◌∷◌, ◌++◌, length, drop, sym, refl, ap, ◌∙◌, append_assoc}
+use Rattle.std.proofs.Common.{zero-add, arith, length-append, drop_at}
 use Rattle.octets.specs.Octets.{part, put, bytes, zeros, filled}
 use Rattle.octets.proofs.PartLaws.{put_seam, put_in, take_out}
 use Rattle.octets.proofs.ZeroLaws.{length_filled}

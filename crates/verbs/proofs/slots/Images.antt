@@ -1,6 +1,7 @@
 -- The verbs on the parts of an image: what they are given lies in bounds, and what they leave are the parts of the image with one pair
 -- more, or one less. Assumes nothing.
-use Rattle.std.proofs.Common.{◌≡◌, ℕ, suc, ◌+◌, ◌-◌, ◌*◌, ◌%◌, ◌^◌, ◌<◌, ◌≤◌, List, [], ◌∷◌, ◌++◌, length, take, drop, ap, ◌∙◌, arith, length-drop, take-append-drop, length-take-le, take_all, le-ltb, lt-ltb}
+use Rattle.std.proofs.Common.{◌≡◌, ℕ, suc, ◌+◌, ◌-◌, ◌*◌, ◌%◌, ◌^◌, ◌<◌, ◌≤◌, List, [], ◌∷◌, ◌++◌, length, take, drop, ap, ◌∙◌, arith, length-drop}
+use Rattle.std.proofs.Common.{take-append-drop, length-take-le, take_all, le-ltb, lt-ltb}
 use native.Mathlib.Decide.{dec_lt}
 use Rattle.octets.specs.Octets.{part, put, zeros}
 use Rattle.store.specs.Maps.{Pair, pair, values}
@@ -108,17 +109,17 @@ module _ {id n t : ℕ} {s vs : List ℕ} (c : Standing id n t s vs) where
     | no k ↦ rw (le-ltb i n (omega arith), take_all i m (omega (arith, count))) c.total
   ]
 
-module _ {a : Spot} {k v s vs : List ℕ} (c : CanInsert a k v s vs) where
+module _ {a : Spot} {v s vs : List ℕ} (c : CanInsert a v s vs) where
   pub insert_bounds : Bounds a.count a.total s vs × (place_for s a ≤ a.total)
   insert_bounds =
       (bounds c.standing, omega (arith, place_is c.standing a.slot c.slot, values_cut a.slot (pairs_in a.count s vs), c.standing.total))
 
-  pub insert_image : {q : ℕ} {s' vs' : List ℕ} → q ≡ place_for s a → vs' ≡ put q (v ++ part q (a.total - q) vs) vs
+  pub insert_image : (k : List ℕ) {q : ℕ} {s' vs' : List ℕ} → length k ≤ 16 → q ≡ place_for s a → vs' ≡ put q (v ++ part q (a.total - q) vs) vs
       → s' ≡ record_in a.id q (pair k v) a.slot (a.count - a.slot) s
       → Holds a.id (length s) (length vs) (inserted a.slot (pair k v) (pairs_in a.count s vs)) s' vs'
-  insert_image e ev es =
+  insert_image k hk e ev es =
       let h = c.standing in
-      insert_holds h.holds a.count a.total a.slot _ (count h) h.total (e ∙ place_is h a.slot c.slot) k v _ _ c.slot c.free c.fits c.key ev es
+      insert_holds h.holds a.count a.total a.slot _ (count h) h.total (e ∙ place_is h a.slot c.slot) k v _ _ c.slot c.free c.fits hk ev es
 
 module _ {a : Spot} {s vs : List ℕ} (c : CanRemove a s vs) where
   abbrev r : Record
@@ -148,7 +149,7 @@ module _ {a : Spot} {s vs : List ℕ} (c : CanRemove a s vs) where
 
 -- ---- replace: after the old pair is out, the new one can go in
 
-module _ {a : Spot} {k v s vs s' vs' : List ℕ} (c : CanReplace a k v s vs)
+module _ {a : Spot} {v s vs s' vs' : List ℕ} (c : CanReplace a v s vs)
     (g : Holds a.id (length s) (length vs) (erased a.slot (pairs_in a.count s vs)) s' vs') where
   abbrev old : List Pair
   old = pairs_in a.count s vs
@@ -163,7 +164,7 @@ module _ {a : Spot} {k v s vs s' vs' : List ℕ} (c : CanReplace a k v s vs)
   left = rw fewer at (pairs_held g)
 
   pub replace_can : (x : Record) → x ≡ slot_in (drop (32 * a.slot) s)
-      → CanInsert (record a { count = a.count - 1; total = a.total - x.value_length }) k v s' vs'
+      → CanInsert (record a { count = a.count - 1; total = a.total - x.value_length }) v s' vs'
   replace_can x e =
       let h = c.removes.standing in
       let b = remove_bounds c.removes in
@@ -178,10 +179,9 @@ module _ {a : Spot} {k v s vs s' vs' : List ℕ} (c : CanReplace a k v s vs)
         slot = omega (arith, c.removes.slot);
         free = omega (arith, records_long g, c.removes.slot);
         fits = omega (arith, values_long g, c.fits);
-        key = c.key;
       }
 
-  pub replace_image : {s'' vs'' : List ℕ}
-      → Holds a.id (length s') (length vs') (inserted a.slot (pair k v) (pairs_in (a.count - 1) s' vs')) s'' vs''
-      → Holds a.id (length s) (length vs) (inserted a.slot (pair k v) (erased a.slot old)) s'' vs''
-  replace_image f = rw (left, records_long g, values_long g) at f
+  pub replace_image : (p : Pair) {s'' vs'' : List ℕ}
+      → Holds a.id (length s') (length vs') (inserted a.slot p (pairs_in (a.count - 1) s' vs')) s'' vs''
+      → Holds a.id (length s) (length vs) (inserted a.slot p (erased a.slot old)) s'' vs''
+  replace_image p f = rw (left, records_long g, values_long g) at f

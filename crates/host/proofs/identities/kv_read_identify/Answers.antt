@@ -1,17 +1,12 @@
-use mathlib.Core.Path.{◌≡◌, ◌∙◌}
-use borrow.Author.Rules.{rules}
-use borrow.Author.Tests.{eq-eqb, ne_eqb}
-use Rattle.sheets.specs.Identify.{limits_at}
+use borrow.Author.Tests.{eq-eqb}
 use Rattle.host.specs.Identity.{identity}
+use Rattle.host.proofs.identities.Limits.{limits_or_zeros}
 use Rattle.host.proofs.identities.kv_read_identify.Goals as goal
-
-pub returns-then-page-ne4096 : goal.returns-then-page-ne4096
-unfolding identity
-returns-then-page-ne4096 c = c.from.ensures ∙ simp (ne_eqb _ _ c.if-page-ne4096.true)
 
 pub returns : goal.returns
 unfolding identity
 returns c =
-    let l : c.unwrap_or_default-limits.result ≡ limits_at c.args.page.now c.args.ordinal = search rules in
-    rw (eq-eqb _ _ c.if-page-ne4096.false)
+    let e = c.in-Some.ensures.cases in
+    let l = limits_or_zeros _ c.limits_at.ensures c.unwrap_or_default-limits.ensures in
+    rw (eq-eqb _ _ e.long, ← e.same)
     (rw (c.read64-2.ensures, c.read64.ensures, c.index_in.ensures, c.formats_in.ensures, c.from-2.ensures, l))

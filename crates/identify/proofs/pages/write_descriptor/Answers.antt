@@ -4,5 +4,6 @@ use Rattle.identify.proofs.pages.write_descriptor.Goals as goal
 
 pub returns : goal.returns
 returns c =
-    descriptor_written (limits_of c.args.f) c.args.at c.args.page.now c.requires c.write16.ensures c.write16-2.ensures
+    let k = rw c.from.ensures at c.write16.ensures in
+    descriptor_written (limits_of c.args.f) c.args.at c.args.page.now c.requires k c.write16-2.ensures
     c.write32.ensures c.write32-2.ensures c.write32-3.ensures

@@ -9,5 +9,5 @@ returns c =
     let s = c in
     let g = s.well_formed.0 in
     let l = g.1.0.1 in
-    rw (c.before.widen.ensures, part_whole 16 s.args.key l) at c.is_clear.ensures
+    rw (c.before.widen.ensures, part_whole 16 s.args.key l, c.from.ensures) at c.is_clear.ensures
     ∙ clear_wide_law s.args.len s.args.key (array_bytes s.args.key g.0 g.1.1) l

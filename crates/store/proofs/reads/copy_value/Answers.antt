@@ -20,7 +20,7 @@ pub returns : goal.returns
 returns c =
     let r = c.read-record.ensures in (
       (λ i. (r i).value_length),
-      c.copy.ensures
+      c.copy_at.ensures
           ∙ ap (λ (x : List ℕ). put 0 x c.args.buffer.now)
           (handed _ _ _ _ c.args.amount _ c.args.values.now (λ i. (r i).place) (λ i. (r i).value_length) c.min-moved.ensures),
     )

@@ -20,16 +20,7 @@ written s s1 s2 s3 s4 s5 s6 k v at id p e1 e2 e3 e4 e5 e6 h g =
     let c : at + 24 ≡ at + length k + length z + 4 + 4 = omega arith in
     let d : at + 28 ≡ at + length k + length z + 4 + 4 + 4 = omega arith in
     let w : length (record_of id p (pair k v)) ≡ 32 = length_record id p (pair k v) h in
-    cc (puts_joined at k (z ∷ bytes 4 (length k) ∷ bytes 4 p ∷ bytes 4 (length v) ∷ bytes 4 id ∷ []) s (omega arith))
+    rw (e6, e5, e4, e3, e2, e1, a, b, c, d) (puts_joined at k (z ∷ bytes 4 (length k) ∷ bytes 4 p ∷ bytes 4 (length v) ∷ bytes 4 id ∷ []) s (omega arith))
 
 pub returns : goal.returns
-returns c =
-    let w6 = c.before.before in
-    let w5 = w6.before.before.before.before in
-    let w4 = w5.before.before.before.before in
-    let w3 = w4.before.before.before.before in
-    let w2 = w3.before.before.before.before in
-    let w1 = w2.before.before.before.before in
-    let pre = w1.before.before.before.before.before.requires in
-    written _ _ _ _ _ _ _ _ _ _ _ _ w1.copy_at.ensures w2.clear.ensures w3.write32.ensures w4.write32-2.ensures
-    w5.write32-3.ensures w6.write32-4.ensures pre.1 pre.0
+returns c = search written

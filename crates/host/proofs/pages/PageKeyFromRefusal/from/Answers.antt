@@ -7,4 +7,4 @@ use Rattle.host.proofs.pages.PageKeyFromRefusal.from.Goals as goal
 pub returns : goal.returns
 returns c =
     let key : c.default.result.key ≡ zeros 16 = grind (arith, common_steps) in
-    rw (c.number.ensures, key, c.default.ensures.1.0, c.default.ensures.1.1.0)
+    simp (c.number.ensures, key, c.default.ensures.1.0, c.default.ensures.1.1.0)

@@ -3,4 +3,4 @@ use Rattle.sheets.proofs.pages.Field.write_first.Goals as goal
 
 pub returns : goal.returns
 returns c =
-    entry_first c.args.self.now _ c.requires _ _ c.write16.ensures c.copy16.ensures
+    entry_first c.args.self.now _ c.requires _ _ c.write16.ensures c.copy_word.ensures

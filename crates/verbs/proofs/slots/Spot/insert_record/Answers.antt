@@ -12,8 +12,8 @@ unfolding record_in
 returns c =
     let a = c.args in
     let n : a.self.count + 1 - (a.self.slot + 1) ≡ a.self.count - a.self.slot = omega arith in
-    let p = pair a.key.now a.value.now in
-    let l = length_record a.self.id a.place p c.requires.key in
+    let p = pair a.key.bytes.now a.value.now in
+    let l = length_record a.self.id a.place p a.key.short in
     rw n at c.raise_places.ensures
     ∙ ap (raised (length a.value.now) (a.self.slot + 1) (a.self.count - a.self.slot))
     (moved_up (32 * a.self.slot) (32 * (a.self.count - a.self.slot)) (record_of a.self.id a.place p) _ _ _ c.write_record.ensures (rw l c.slide.ensures)

@@ -1,2 +1,0 @@
--- The numbers one after the other.
-mod Numbers

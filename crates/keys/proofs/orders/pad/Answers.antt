@@ -1,6 +1,0 @@
-use mathlib.Core.Path.{◌∙◌}
-use Rattle.octets.proofs.ZeroLaws.{put_zeros}
-use Rattle.keys.proofs.orders.pad.Goals as goal
-
-pub returns : goal.returns
-returns c = c.before.copy.ensures ∙ put_zeros 16 _
