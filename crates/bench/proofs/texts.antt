@@ -1,2 +1,2 @@
--- `Line` has the length of a line, and that the library's digits with a newline behind them are a line.
+-- `Line` has the length of a line, and the invariant of the loop that writes one.
 pub mod Line

@@ -1,4 +1,4 @@
--- What the two calls answer, refusal by refusal. Assumes nothing.
+-- What `create` answers. Assumes nothing.
 use mathlib.Core.Path.{◌≡◌}
 use mathlib.Core.Bool.{false}
 use mathlib.Core.List.{List, [], ◌∷◌}

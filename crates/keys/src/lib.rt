@@ -1,4 +1,4 @@
 #![tactic(auto)]
-// Keys in sixteen bytes, and their order. Each contract is one equation in the words of `specs/Keys.antt`.
+// The order of keys, and keys in sixteen bytes. Each contract is one equation in the words of `specs/Keys.antt`.
 pub mod orders;
 pub mod wide;

@@ -1,10 +1,34 @@
-// Keys that stand in sixteen bytes, with their length beside them, and their order.
+// The order of keys: of parts of slices, and of keys that stand in sixteen bytes with their length beside them.
 ghost use Rattle.std.specs.Prelude.{◌≡◌, ◌+◌, ◌≤◌, length, drop};
 ghost use Rattle.octets.specs.Octets.{part, filled, all_zero};
-ghost use Rattle.keys.specs.Keys.{wide_of, clear_wide};
+ghost use Rattle.keys.specs.Keys.{order, wide_of, clear_wide};
 
 use crate::wide::read_big;
 use octets::runs::copy_at;
+use std::cmp::Ordering;
+
+// The first byte that differs decides; a key that runs out is the lower one. By a loop of its own: by the library's `<` of slices a host reads a page in
+// twice the time (docs/SPEED.md).
+pub fn compare(a: &[u8], b: &[u8]) -> Ordering
+    ensures { result ≡ order a.now b.now }
+{
+    for i in 0..a.len() {
+        if b.len() <= i {
+            return Ordering::Greater;
+        }
+        if a[i] < b[i] {
+            return Ordering::Less;
+        }
+        if b[i] < a[i] {
+            return Ordering::Greater;
+        }
+    }
+    if a.len() < b.len() {
+        Ordering::Less
+    } else {
+        Ordering::Equal
+    }
+}
 
 // A key that stands in sixteen bytes with zeros behind it, as two numbers with the highest byte first, and its length. Such keys
 // stand in the order of their numbers (`widened_order`), so that they are compared with no loop.

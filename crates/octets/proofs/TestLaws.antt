@@ -51,7 +51,6 @@ pub true_all : (bs : List Bool) → All bs → all bs ≡ true
 true_all [] a = refl
 true_all (b ∷ bs) a = rw (and_all b bs, a.0) (true_all bs a.1)
 
--- a test that fails decides, and one that holds leaves it to those behind it
 -- ---- none holds
 
 abbrev pub None : List Row → Type 0

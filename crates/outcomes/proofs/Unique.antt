@@ -1,5 +1,5 @@
--- At most one outcome satisfies a contract: the law, then the public functions, those that are exported to C first; those of `octets`,
--- `keys`, `wire`, `sheets`, `table`, `store` and `verbs` are in `UniqueBelow.antt`. Assumes nothing.
+-- At most one outcome satisfies a contract: the law, then the public functions, those that are exported to C first; those of `refusals`,
+-- `octets`, `keys`, `wire`, `sheets`, `ranges`, `scratch`, `table`, `store`, `legal` and `verbs` are in `UniqueBelow.antt`. Assumes nothing.
 use mathlib.Core.Path.{◌≡◌, refl, sym, ap, ◌∙◌}
 use mathlib.Core.List.{List}
 use Prim.Native.Nat.{ℕ, ◌≤◌}
@@ -212,6 +212,29 @@ widen_key_one κs a x y u v p q = value p q
 
 pub known_one : Determines quickLooks.known.Kinds.ps quickLooks.known.Kinds.r quickLooks.known.Reads.Learnt
 known_one κs a x y u v p q = value p q
+
+-- ---- the structs that C is given, of what a `Result` has
+
+pub room_refused_one : Determines polls.RoomFromRefusal.from.Kinds.ps polls.RoomFromRefusal.from.Kinds.r polls.RoomFromRefusal.from.Reads.Learnt
+room_refused_one κs a x y u v p q = value p q
+
+pub room_told_one : Determines polls.RoomFromDescription.from.Kinds.ps polls.RoomFromDescription.from.Kinds.r polls.RoomFromDescription.from.Reads.Learnt
+room_told_one κs a x y u v p q = value p q
+
+pub look_refused_one : Determines quickLooks.LookFromRefusal.from.Kinds.ps quickLooks.LookFromRefusal.from.Kinds.r quickLooks.LookFromRefusal.from.Reads.Learnt
+look_refused_one κs a x y u v p q = value p q
+
+pub page_key_refused_one : Determines hostPages.PageKeyFromRefusal.from.Kinds.ps hostPages.PageKeyFromRefusal.from.Kinds.r hostPages.PageKeyFromRefusal.from.Reads.Learnt
+page_key_refused_one κs a x y u v p q = value p q
+
+pub identity_refused_one : Determines identities.IdentityFromRefusal.from.Kinds.ps identities.IdentityFromRefusal.from.Kinds.r identities.IdentityFromRefusal.from.Reads.Learnt
+identity_refused_one κs a x y u v p q = value p q
+
+pub reply_refused_one : Determines replies.ReplyFromRefusal.from.Kinds.ps replies.ReplyFromRefusal.from.Kinds.r replies.ReplyFromRefusal.from.Reads.Learnt
+reply_refused_one κs a x y u v p q = value p q
+
+pub reply_told_one : Determines replies.ReplyFromCompletion.from.Kinds.ps replies.ReplyFromCompletion.from.Kinds.r replies.ReplyFromCompletion.from.Reads.Learnt
+reply_told_one κs a x y u v p q = value p q
 
 -- ---- the same with the equation written out and taken apart: the exported functions that write slices, so that each thing yielded
 -- has its line

@@ -1,7 +1,11 @@
--- At most one outcome satisfies a contract: the public functions of `octets`, `keys`, `wire`, `sheets`, `ranges`, `scratch`, `table`,
+-- At most one outcome satisfies a contract: the public functions of `refusals`, `octets`, `keys`, `wire`, `sheets`, `ranges`, `scratch`, `table`,
 -- `store`, `legal` and `verbs`. Assumes nothing.
 use mathlib.Core.Path.{◌≡◌, refl, sym, ap, ◌∙◌}
 use mathlib.Core.List.{List}
+use denote.RattleType.{RattleType}
+use denote.Param.Laws.{Laws}
+use mir.Val.{Fits}
+use mir.Syntax.{Dict, w64}
 use Prim.Native.Nat.{ℕ}
 use lib.Dec.{eqb}
 use Rattle.std.specs.Prelude.{Bool, Result, Ok, Err}
@@ -23,7 +27,7 @@ use Rattle.sheets.proofs.pages as pages
 use Rattle.scratch.specs.Calls.{Task, Tried, tried, Slices, slices, Ended, ended, memory_call}
 use Rattle.wire.specs.Completion.{Post}
 use Rattle.ranges.proofs.requests as requests
-use Rattle.outcomes.proofs.Refused.{done_one, coded}
+use Rattle.outcomes.proofs.Refused.{done_one, coded, names_one}
 use Rattle.scratch.proofs.calls as memoryCalls
 use Rattle.store.specs.Maps.{Pair}
 use Rattle.store.specs.Parts.{Holds}
@@ -33,7 +37,7 @@ use Rattle.store.proofs.finds as finds
 use Rattle.store.proofs.records as records
 use Rattle.store.proofs.reads as reads
 use Rattle.verbs.proofs.slots as slots
-use Rattle.outcomes.specs.Unique.{Determines}
+use Rattle.outcomes.specs.Unique.{Determines, Answers}
 use Rattle.outcomes.proofs.Unique.{one, value, slice}
 
 -- ---- refusals::numbers, statuses
@@ -44,6 +48,11 @@ refusal_number_one κs a x y u v p q = value p q
 pub outcome_number_one : Determines numbers.number.Kinds.ps numbers.number.Kinds.r numbers.number.Reads.Learnt
 outcome_number_one κs a x y u v p q = value p q
 
+-- whatever stands in an `Ok`
+pub code_one : (T : RattleType) (l : Laws T) (d : Dict)
+    → Answers (statuses.code.Kinds.ps T l) (statuses.code.Kinds.r T l) (statuses.code.Reads.Learnt T l d)
+code_one T l d κs a x y u v p q = p ∙ sym q
+
 pub status_code_one : Determines statuses.Status.code.Kinds.ps statuses.Status.code.Kinds.r statuses.Status.code.Reads.Learnt
 status_code_one κs a x y u v p q = value p q
 
@@ -52,8 +61,15 @@ status_code_one κs a x y u v p q = value p q
 pub wide_eq_one : Determines orders.WidePartialEq.eq.Kinds.ps orders.WidePartialEq.eq.Kinds.r orders.WidePartialEq.eq.Reads.Learnt
 wide_eq_one κs a x y u v p q = value p q
 
+pub wide_partial_cmp_one : Determines orders.WidePartialOrd.partial_cmp.Kinds.ps orders.WidePartialOrd.partial_cmp.Kinds.r
+    orders.WidePartialOrd.partial_cmp.Reads.Learnt
+wide_partial_cmp_one κs a x y u v p q = value p q
+
 pub wide_cmp_one : Determines orders.WideOrd.cmp.Kinds.ps orders.WideOrd.cmp.Kinds.r orders.WideOrd.cmp.Reads.Learnt
 wide_cmp_one κs a x y u v p q = value p q
+
+pub compare_one : Determines orders.compare.Kinds.ps orders.compare.Kinds.r orders.compare.Reads.Learnt
+compare_one κs a x y u v p q = value p q
 
 pub read_big_one : Determines wide.read_big.Kinds.ps wide.read_big.Kinds.r wide.read_big.Reads.Learnt
 read_big_one κs a x y u v p q = value p q
@@ -86,6 +102,11 @@ all_zero_one κs a x y u v p q = value p q
 
 -- ---- octets::words
 
+-- however many
+pub bytes_at_one : (N : ℕ) (f : Fits w64 N)
+    → Determines (words.bytes_at.Kinds.ps N f) (words.bytes_at.Kinds.r N f) (words.bytes_at.Reads.Learnt N f)
+bytes_at_one N f κs a x y u v p q = value p q
+
 pub read16_one : Determines words.read16.Kinds.ps words.read16.Kinds.r words.read16.Reads.Learnt
 read16_one κs a x y u v p q = value p q
 
@@ -116,6 +137,9 @@ pub completion_one : Determines completions.Post.completion.Kinds.ps completions
 completion_one κs a x y u v p q = value p q
 
 -- ---- wire::entries
+
+pub try_from_one : Determines entries.OpcodeTryFromU8.try_from.Kinds.ps entries.OpcodeTryFromU8.try_from.Kinds.r entries.OpcodeTryFromU8.try_from.Reads.Learnt
+try_from_one κs a x y u v p q = (names_one _ x y p q, refl)
 
 pub is_one : Determines entries.Command.is.Kinds.ps entries.Command.is.Kinds.r entries.Command.is.Reads.Learnt
 is_one κs a x y u v p q = value p q

@@ -10,3 +10,9 @@ abbrev pub Determines : {n : ℕ} (ps : List (ParamKind n)) (r : ResultKind n) �
 Determines {n} ps r P =
     (κs : Lfts n) (a : Dens κs ps) (x y : (res_t r κs).Denot) (u v : Lasts (ended_of n ps r) κs a)
     → P κs a x (at_exit (ended_of n ps r) κs a u) → P κs a y (at_exit (ended_of n ps r) κs a v) → (x ≡ y) × (u ≡ v)
+
+-- Of the answers alone, where the type of a parameter is open: what such a type lends, the function's contract cannot name.
+abbrev pub Answers : {n : ℕ} (ps : List (ParamKind n)) (r : ResultKind n) → Out n ps r → Type 0
+Answers {n} ps r P =
+    (κs : Lfts n) (a : Dens κs ps) (x y : (res_t r κs).Denot) (u v : Lasts (ended_of n ps r) κs a)
+    → P κs a x (at_exit (ended_of n ps r) κs a u) → P κs a y (at_exit (ended_of n ps r) κs a v) → x ≡ y

@@ -14,7 +14,7 @@ use Rattle.keys.specs.Keys.{Key}
 use Rattle.octets.proofs.PartLaws.{length_part, part_seam, part_take, part_two, part_whole, drop_past, put_none, put_then, put_part, put_next, put_ahead}
 use Rattle.octets.proofs.NumberLaws.{number_bytes}
 use Rattle.octets.proofs.ZeroLaws.{zeros_all, part_filled}
-use Rattle.keys.proofs.OrderLaws.{slice_less, Below, BelowFirst, Rising}
+use Rattle.keys.proofs.OrderLaws.{Below, BelowFirst, Rising}
 use Rattle.octets.proofs.TestLaws.{known, holds, fails}
 use Rattle.sheets.specs.declared.pages.Field.{Field}
 use Rattle.sheets.specs.Page.{entry_size, padding, page_entry, entries, page, first_entry, keys, read_entries, read_page, entry_steps, fits}
@@ -113,9 +113,6 @@ module _ (field : Field) where
 -- code lends the key as the part from 2 to 2 + n
 pub back : (n : ℕ) → 2 + n - 2 ≡ n
 back n = omega arith
-
--- two keys, as code compares them
-pub ruleset order = (slice_less)
 
 -- ---- a page of rising keys is read back, whatever lies behind it
 

@@ -1,18 +1,15 @@
--- A line's length, and that the library's digits with a newline behind them are a line. Assumes nothing.
-use mathlib.Core.Path.{◌≡◌, refl, ◌∙◌}
-use mathlib.Core.List.{List, [], ◌∷◌}
-use Prim.Native.Nat.{ℕ, suc, ◌+◌, ◌-◌, ◌*◌, ◌/◌, ◌%◌, ◌≤◌, ◌<◌}
+-- The loop that writes a line: what is left to write, on the text as it is, gives the whole line. Assumes nothing.
+use mathlib.Core.Path.{◌≡◌, refl, ap, ◌∙◌}
+use mathlib.Core.List.{List, [], ◌∷◌, ◌++◌}
+use Prim.Native.Nat.{ℕ, suc, ◌+◌, ◌-◌, ◌*◌, ◌≤◌, ◌<◌}
+use native.Mathlib.Nat.{add-zero}
+use native.Mathlib.Numerals.{add-one}
 use native.Mathlib.Omega.{arith}
-use lib.ListN.{length, set, length-append}
-use borrow.Rule.Slice.PartMut.{put_mid}
-use Rattle.std.specs.Prelude.{Result, Ok, OnOk, slice_index}
-use Rattle.std.proofs.Common.{Fits, w8}
-use Rattle.std.proofs.lemmas.Result.{IfOk-at_ok}
-use Rattle.hex.specs.declared.error.FromHexError.{FromHexError}
-use Rattle.hex.specs.Hex.{IsBytes, lower_digits, encode_with, encode_lower}
+use lib.ListN.{length, drop, get_or, set, length-append, length-drop, drop_of_length-le}
+use lib.Seq.{drop-cons}
 use Rattle.octets.specs.Octets.{put}
-use Rattle.octets.proofs.PartLaws.{put_one, put_next, length_put, lent_all}
-use Rattle.bench.specs.Text.{digit, hex_of, line}
+use Rattle.octets.proofs.PartLaws.{put_one, put_next, length_put}
+use Rattle.bench.specs.Text.{hex_byte, hex_of, line}
 
 length_hex : (bs : List ℕ) → length (hex_of bs) ≡ 2 * length bs
 length_hex [] = refl
@@ -22,28 +19,33 @@ pub length_line : (bs : List ℕ) → length (line bs) ≡ 2 * length bs + 1
 unfolding line
 length_line bs = rw (length-append, length_hex)
 
--- ---- the library's words
-
-digit_is : (d : ℕ) → d < 16 → slice_index lower_digits d ≡ digit d
-digit_is d h = grind (arith)
-
-hex_is : (bs : List ℕ) → IsBytes bs → encode_lower bs ≡ hex_of bs
-unfolding encode_with
-hex_is [] h = refl
-hex_is (b ∷ bs) h =
-    let l : b < 256 = h 0 in
-    rw (digit_is (b / 16) (omega arith), digit_is (b % 16) (omega arith), hex_is bs (λ i. h (suc i)))
-
--- the digits stand in the part that was lent, and the newline behind it
-pub written : (at : ℕ) (bs xs ys : List ℕ) {r : Result Unit FromHexError} {u : Unit} → r ≡ Ok u → OnOk r (ys ≡ encode_lower bs)
-    → ((i : ℕ) → Fits w8 (slice_index bs i)) → at + (2 * length bs + 1) ≤ length xs
-    → set (put_mid at (at + 2 * length bs - at) xs ys) (at + 2 * length bs) 10 ≡ put at (line bs) xs
+line_cons : (b : ℕ) (bs : List ℕ) → line (b ∷ bs) ≡ hex_byte b ++ line bs
 unfolding line
-written at bs xs ys o e b h =
-    let hs = hex_of bs in
-    let l = length_hex bs in
-    let d : ys ≡ hs = IfOk-at_ok _ o e ∙ hex_is bs (λ i. (b i).fits) in
-    let w : put_mid at (at + 2 * length bs - at) xs ys ≡ put at hs xs = lent_all at _ hs xs d (omega arith) in
-    rw (w, ← l) (put_one (at + length hs) 10 (put at hs xs) (omega (arith, length_put at hs xs (omega arith))) ∙ put_next at hs (10 ∷ []) xs (omega arith))
+line_cons b bs = refl
 
-pub ruleset line_laws = (written)
+-- the first i bytes are written
+pub record Written (at : ℕ) (bs xs : List ℕ) (i : ℕ) (ys : List ℕ) : Type 0 where
+  pub within : (at + (2 * length bs + 1) ≤ length xs) × (i ≤ length bs) × (length ys ≡ length xs)
+  pub is : put (at + 2 * i) (line (drop i bs)) ys ≡ put at (line bs) xs
+
+module _ {at : ℕ} {bs xs : List ℕ} where
+  pub written_none : at + (2 * length bs + 1) ≤ length xs → Written at bs xs 0 xs
+  written_none h = record { within = omega arith; is = rw add-zero }
+
+  pub written_more : {i : ℕ} {ys zs : List ℕ} → Written at bs xs i ys → zs ≡ put (at + 2 * i) (hex_byte (get_or bs i 0)) ys → i < length bs
+      → Written at bs xs (i + 1) zs
+  written_more {i} {ys} {zs} w e h =
+      let b = get_or bs i 0 in
+      let vs = line (drop (suc i) bs) in
+      let l : length vs ≡ 2 * (length bs - suc i) + 1 = length_line (drop (suc i) bs) ∙ rw length-drop in
+      let n : at + 2 * (i + 1) ≡ at + 2 * i + 2 = omega arith in
+      record {
+        within = omega (arith, ap length e, length_put (at + 2 * i) (hex_byte b) ys (omega arith));
+        is = rw (e, n, add-one) (put_next (at + 2 * i) (hex_byte b) vs ys (omega arith) ∙ rw (drop-cons bs i 0 h, line_cons) at w.is);
+      }
+
+  pub written_done : {i : ℕ} {ys : List ℕ} → Written at bs xs i ys → length bs ≤ i → set ys (at + 2 * length bs) 10 ≡ put at (line bs) xs
+  unfolding line
+  written_done {i} {ys} w h =
+      let e : length bs ≡ i = omega arith in
+      rw e (put_one (at + 2 * i) 10 ys (omega arith) ∙ rw (drop_of_length-le bs h) at w.is)
